@@ -1,0 +1,13 @@
+pub mod Order
+pub mod Tests
+pub mod SameValue
+pub mod Choosing
+pub mod NanPattern
+pub mod Series
+pub mod Whole
+pub mod Reduced
+pub mod RootNumbers
+pub mod Fields
+pub mod RootPlace
+pub mod RootCases
+pub mod Unit

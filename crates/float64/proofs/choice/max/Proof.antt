@@ -1,0 +1,16 @@
+-- `max` meets its contract. Assumes nothing.
+use Rattle.float64.proofs.Choosing.{max-is}
+use Rattle.float64.proofs.choice.max.Statement.{statement}
+use Rattle.float64.proofs.choice.max.Tie as tie
+
+returns : tie.Need-returns
+returns c = simp (max-is, c .if1 .taken)
+
+returns-2 : tie.Need-returns-2
+returns-2 c = simp (max-is, c .before .if1 .left, c .if2 .taken)
+
+returns-3 : tie.Need-returns-3
+returns-3 c = simp (max-is, c .before .if1 .left, c .if2 .left)
+
+pub max-spec : {M : Type 1} → statement M
+max-spec = tie.close (tie.spec returns returns-2 returns-3)

@@ -1,0 +1,31 @@
+-- `nearest_root` meets its contract. Assumes nothing.
+use native.Mathlib.Omega.{arith}
+use Rattle.float64.proofs.RootNumbers.{sq-lt, root-ge, nearest-up, nearest-down}
+use borrow.Author.Needs.{needs}
+use Rattle.float64.proofs.root.nearest_root.Statement.{statement}
+use Rattle.float64.proofs.root.nearest_root.Tie as tie
+
+floor-root-requires : tie.Need-floor-root-requires
+floor-root-requires c κs = search needs
+
+add-result : tie.Need-add-result
+add-result c = search needs
+
+returns : tie.Need-returns
+returns c =
+    let a = c .before .before .before in
+    let e = a .floor-root .ensures in
+    let lo = root-ge (a .floor-root .result .root) (a .floor-root .result .rest) (omega arith) (e .small) in
+    let hi = sq-lt (a .floor-root .result .root) (omega arith) in
+    (nearest-up _ _ _ (e .split) (e .small) (c .before .if1 .taken), (omega arith, omega arith))
+
+returns-2 : tie.Need-returns-2
+returns-2 c =
+    let a = c .before .before in
+    let e = a .floor-root .ensures in
+    let lo = root-ge (a .floor-root .result .root) (a .floor-root .result .rest) (omega arith) (e .small) in
+    let hi = sq-lt (a .floor-root .result .root) (omega arith) in
+    (nearest-down _ _ _ (omega arith) (e .split) (c .if1 .left), (omega arith, omega arith))
+
+pub nearest-root-spec : {M : Type 1} → statement M
+nearest-root-spec = tie.close (tie.spec floor-root-requires add-result returns returns-2)

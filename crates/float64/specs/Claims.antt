@@ -1,0 +1,44 @@
+-- What document 01 says of its float functions in words, and what a reader expects beside their definitions. The proofs are in proofs/Claims.antt.
+use mathlib.Core.Path.{_≡_}
+use mathlib.Core.Logic.{_⊎_}
+use Prim.Native.Nat.{ℕ}
+use lib.Dec.{T}
+use lib.IntN.{negsuc}
+use lib.Ieee.{Float, nan, fin, binary64, fits, le, mul}
+use lib.Ieee.Scale.{finite}
+use mathlib.Core.Bool.{false}
+use Rattle.float64.specs.Constants.{nought, one, minusOne, two, sqrt2}
+use Rattle.float64.specs.Root.{IsRoot, rootOf}
+use Rattle.float64.specs.Exponential.{E}
+use Rattle.float64.specs.Wave.{S, C}
+use Rattle.float64.specs.Pattern.{bitsOf, doubleOf}
+
+-- 2 ^ -511: from here up a square does not underflow
+abbrev pub leastSquarable : Float
+leastSquarable = fin false 1 (negsuc 510)
+
+pub record RootClaims : Type 0 where
+  -- `rootOf` is the nearest double
+  pub nearest : (x : Float) → T (fits binary64 x) → IsRoot x (rootOf x)
+  -- and no other double is: "the nearest" leaves no choice
+  pub only : (x y : Float) → T (fits binary64 x) → IsRoot x y → y ≡ rootOf x
+  -- the root of a rounded square is at most the number, where the square neither overflows nor underflows
+  pub of-square : (x : Float) → T (fits binary64 x) → (x ≡ nought) ⊎ T (le leastSquarable x) → T (finite (mul binary64 x x)) → T (le (rootOf (mul binary64 x x)) x)
+  -- SQRT_2 is the nearest double
+  pub of-two : rootOf two ≡ sqrt2
+
+-- "For accepted input t is never positive, and 0 ≤ E ≤ 1"
+pub record ExponentialClaims : Type 0 where
+  pub between : (t : Float) → T (le t nought) → T (le nought (E t)) × T (le (E t) one)
+
+-- x lies between -1 and 1, or is NaN
+abbrev pub InUnit : Float → Type 0
+InUnit x = (x ≡ nan) ⊎ (T (le minusOne x) × T (le x one))
+
+pub record WaveClaims : Type 0 where
+  pub sine : (t : Float) → InUnit (S t)
+  pub cosine : (t : Float) → InUnit (C t)
+
+pub record PatternClaims : Type 0 where
+  -- a double is back from its bits
+  pub back : (x : Float) → T (fits binary64 x) → doubleOf (bitsOf x) ≡ x

@@ -1,0 +1,68 @@
+-- The constants of document 01's float rules. Each is written by its bits, as a literal of the code is, and the law beside it says of which decimal it is the nearest double.
+use mathlib.Core.Path.{_≡_, refl}
+use mathlib.Core.Bool.{false}
+use Prim.Native.Nat.{ℕ, _^_}
+use lib.Ieee.{Float, binary64, neg, ofBits, round, mul, div}
+
+-- the double nearest to the fraction n / d, ties to even
+abbrev pub decimal : ℕ → ℕ → Float
+decimal n d = round binary64 false n d
+
+abbrev pub nought : Float
+nought = ofBits binary64 0
+
+abbrev pub one : Float
+one = ofBits binary64 0x3ff0_0000_0000_0000
+
+abbrev pub minusOne : Float
+minusOne = neg one
+
+abbrev pub two : Float
+two = ofBits binary64 0x4000_0000_0000_0000
+
+abbrev pub k180 : Float
+k180 = ofBits binary64 0x4066_8000_0000_0000
+
+abbrev pub k700 : Float
+k700 = ofBits binary64 0x4085_e000_0000_0000
+
+abbrev pub k1024 : Float
+k1024 = ofBits binary64 0x4090_0000_0000_0000
+
+-- the whole numbers
+pub whole-are : (nought ≡ decimal 0 1) × (one ≡ decimal 1 1) × (two ≡ decimal 2 1) × (k180 ≡ decimal 180 1) × (k700 ≡ decimal 700 1) × (k1024 ≡ decimal 1024 1)
+unfolding ofBits round
+whole-are = (refl, refl, refl, refl, refl, refl)
+
+-- PI
+abbrev pub pi : Float
+pi = ofBits binary64 0x4009_21fb_5444_2d18
+
+-- 36 digits of PI, of which 17 would settle the double
+pub pi-is : pi ≡ decimal 314159265358979323846264338327950288 (10 ^ 35)
+unfolding ofBits round
+pi-is = refl
+
+-- SQRT_2. That it is the nearest double to the root of 2 is `sqrt2` of Claims.
+abbrev pub sqrt2 : Float
+sqrt2 = ofBits binary64 0x3ff6_a09e_667f_3bcd
+
+pub sqrt2-is : sqrt2 ≡ decimal 141421356237309504880168872420969807 (10 ^ 35)
+unfolding ofBits round
+sqrt2-is = refl
+
+-- PI / 180, the rounded quotient
+abbrev pub degree : Float
+degree = div binary64 pi k180
+
+pub degree-is : degree ≡ ofBits binary64 0x3f91_df46_a252_9d39
+unfolding ofBits div
+degree-is = refl
+
+-- w = 2 * PI
+abbrev pub turn : Float
+turn = ofBits binary64 0x4019_21fb_5444_2d18
+
+pub turn-is : turn ≡ mul binary64 two pi
+unfolding ofBits mul
+turn-is = refl

@@ -1,0 +1,9 @@
+pub mod Constants
+pub mod Choice
+pub mod Angle
+pub mod Root
+pub mod RootDigits
+pub mod Exponential
+pub mod Wave
+pub mod Pattern
+pub mod Claims

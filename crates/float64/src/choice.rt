@@ -1,0 +1,49 @@
+// `max`, `min`, `abs` and `clamp`.
+ghost use mathlib.Core.Path.{_≡_};
+ghost use Rattle.float64.specs.Choice.{maxOf, minOf, absOf, clampOf};
+
+// f64::max
+pub fn max(a: f64, b: f64) -> f64
+    ensures { λ r. ⌜ r ≡ maxOf a b ⌝ }
+{
+    if a != a {
+        b
+    } else if a < b {
+        b
+    } else {
+        a
+    }
+}
+
+// f64::min
+pub fn min(a: f64, b: f64) -> f64
+    ensures { λ r. ⌜ r ≡ minOf a b ⌝ }
+{
+    if a != a {
+        b
+    } else if b < a {
+        b
+    } else {
+        a
+    }
+}
+
+// f64::abs. The difference clears the sign of a zero too, which a negation would not.
+pub fn abs(x: f64) -> f64
+    ensures { λ r. ⌜ r ≡ absOf x ⌝ }
+{
+    if x <= 0.0 { 0.0 - x } else { x }
+}
+
+// f64::clamp, for any bounds: it never panics.
+pub fn clamp(x: f64, low: f64, high: f64) -> f64
+    ensures { λ r. ⌜ r ≡ clampOf x low high ⌝ }
+{
+    if x < low {
+        low
+    } else if high < x {
+        high
+    } else {
+        x
+    }
+}

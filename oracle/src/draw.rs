@@ -1,0 +1,136 @@
+//! Jobs drawn at random, the same ones from the same seed.
+
+use std::f64::consts::PI;
+
+/// SplitMix64.
+pub struct Random(u64);
+
+impl Random {
+    pub fn new(seed: u64) -> Self {
+        Random(seed)
+    }
+
+    pub fn bits(&mut self) -> u64 {
+        self.0 = self.0.wrapping_add(0x9e3779b97f4a7c15);
+        let mut z = self.0;
+        z = (z ^ (z >> 30)).wrapping_mul(0xbf58476d1ce4e5b9);
+        z = (z ^ (z >> 27)).wrapping_mul(0x94d049bb133111eb);
+        z ^ (z >> 31)
+    }
+
+    pub fn below(&mut self, n: u64) -> u64 {
+        self.bits() % n
+    }
+
+    /// From 0 to 1.
+    pub fn fraction(&mut self) -> f64 {
+        (self.bits() >> 11) as f64 / (1u64 << 53) as f64
+    }
+
+    pub fn pick<T: Copy>(&mut self, from: &[T]) -> T {
+        from[self.below(from.len() as u64) as usize]
+    }
+}
+
+/// The numbers of one job, its own number first.
+pub fn job(number: u64, random: &mut Random) -> Vec<u64> {
+    match number {
+        8 => floats(random),
+        _ => panic!("job {number} is not drawn yet"),
+    }
+}
+
+fn floats(random: &mut Random) -> Vec<u64> {
+    let operation = random.below(6);
+    let a = operand(operation, random);
+    // A second operand that meets the first, for `max` and `min`; the other operations ignore it.
+    let b = match random.below(8) {
+        0 => a,
+        1 => -a,
+        2 => neighbour(a, random),
+        _ => operand(operation, random),
+    };
+    vec![8, operation, a.to_bits(), b.to_bits()]
+}
+
+fn operand(operation: u64, random: &mut Random) -> f64 {
+    match random.below(5) {
+        0 => f64::from_bits(random.bits()),
+        1 => some_exponent(random),
+        2 => whole(random),
+        3 => {
+            let special = random.pick(&SPECIAL);
+            neighbour(special, random)
+        }
+        _ => natural(operation, random),
+    }
+}
+
+/// Either sign, an exponent of common size, and any digits.
+fn some_exponent(random: &mut Random) -> f64 {
+    let exponent = 1023 - 64 + random.below(128);
+    let signed = random.below(2) << 63 | exponent << 52;
+    f64::from_bits(signed | random.bits() >> 12)
+}
+
+/// A whole number of at most 53 binary digits, at times a square.
+fn whole(random: &mut Random) -> f64 {
+    let places = random.below(53);
+    let n = random.bits() >> (63 - places);
+    let n = if random.below(3) == 0 { (n >> places / 2).pow(2) } else { n };
+    if random.below(4) == 0 {
+        -(n as f64)
+    } else {
+        n as f64
+    }
+}
+
+/// Where a definition changes, or a number's form does.
+const SPECIAL: [f64; 20] = [
+    0.0,
+    -0.0,
+    f64::MIN_POSITIVE,
+    -f64::MIN_POSITIVE,
+    f64::MAX,
+    f64::MIN,
+    f64::INFINITY,
+    f64::NEG_INFINITY,
+    f64::NAN,
+    1.0,
+    -1.0,
+    4.0,
+    -700.0,
+    -1024.0,
+    700.0,
+    PI,
+    2.0 * PI,
+    3.0 * PI,
+    -2.0 * PI,
+    9007199254740992.0,
+];
+
+/// x, or one of the four doubles next to it on either side.
+fn neighbour(x: f64, random: &mut Random) -> f64 {
+    let steps = random.below(5);
+    if random.below(2) == 0 {
+        (0..steps).fold(x, |y, _| y.next_up())
+    } else {
+        (0..steps).fold(x, |y, _| y.next_down())
+    }
+}
+
+/// An argument of the size that the studies have.
+fn natural(operation: u64, random: &mut Random) -> f64 {
+    match operation {
+        0 => neighbour((random.fraction() * 100.0).powi(2), random),
+        1 if random.below(2) == 0 => -710.0 * random.fraction(),
+        1 => -random.fraction() / (1u64 << random.below(60)) as f64,
+        2 if random.below(2) == 0 => random.fraction() * 1e6,
+        2 => {
+            let multiple = random.below(4096) as f64 * PI;
+            neighbour(multiple, random)
+        }
+        3 => (random.fraction() * 181.0).to_radians(),
+        _ => random.below(5) as f64 - 2.0,
+    }
+}
