@@ -10,4 +10,11 @@ pub mod RootNumbers
 pub mod Fields
 pub mod RootPlace
 pub mod RootCases
+pub mod RootNearest
 pub mod Unit
+pub mod ExpBound
+pub mod WaveBound
+pub mod RoundError
+pub mod RootOfSquare
+pub mod Claims
+pub mod Tied

@@ -58,7 +58,10 @@ fn normalised(f: u64) -> Normal
         m *= 2;
         w -= 1;
     }
-    Normal { digits: m, scale: w }
+    Normal {
+        digits: m,
+        scale: w,
+    }
 }
 
 // The pattern of the root of m * 2^52 * 2^w. Where the root rounds up to 2^53, the carry goes into the exponent's field.
@@ -115,8 +118,14 @@ fn next_digit(s: Floor, two: u64) -> Floor
     let rest = s.rest * 4 + two;
     let t = s.root * 4 + 1;
     if t <= rest {
-        Floor { root: s.root * 2 + 1, rest: rest - t }
+        Floor {
+            root: s.root * 2 + 1,
+            rest: rest - t,
+        }
     } else {
-        Floor { root: s.root * 2, rest }
+        Floor {
+            root: s.root * 2,
+            rest,
+        }
     }
 }

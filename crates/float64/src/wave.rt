@@ -5,7 +5,6 @@ ghost use lib.Dec.{T};
 ghost use lib.Ieee.{lt};
 ghost use Rattle.float64.specs.Constants.{nought, one};
 ghost use Rattle.float64.specs.Wave.{wholePart, reducedAngle, series, divisor, S, C};
-
 use crate::choice::clamp;
 
 const PI: f64 = 3.141592653589793;

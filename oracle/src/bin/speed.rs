@@ -1,1 +1,146 @@
-fn main() {}
+//! Times the library's E, S, C and square root beside the Rust's, in one run and on the same arguments, and compares the
+//! results bit for bit.
+
+use oracle::draw::{self, Random};
+use oracle::jobs::{answer, OPERATIONS};
+use oracle::numbers::{bits, double};
+use oracle::stand_in::StandIn;
+use std::f64::consts::PI;
+use std::hint::black_box;
+use std::process::exit;
+use std::time::Instant;
+
+// The crate `speed`.
+#[link(name = "speed", kind = "static")]
+extern "C" {
+    fn exp_of(t: f64) -> f64;
+    fn sin_of(t: f64) -> f64;
+    fn cos_of(t: f64) -> f64;
+    fn sqrt_of(x: f64) -> f64;
+    fn sum_exp(first: f64, step: f64, count: u64) -> f64;
+    fn sum_sin(first: f64, step: f64, count: u64) -> f64;
+    fn sum_cos(first: f64, step: f64, count: u64) -> f64;
+    fn sum_sqrt(first: f64, step: f64, count: u64) -> f64;
+}
+
+const ROUNDS: usize = 15;
+const CALLS: u64 = 100_000;
+const SINGLE: usize = 1_000_000;
+
+/// The loop of the crate `speed`.
+#[inline(always)]
+fn sum(of: impl Fn(f64) -> f64, first: f64, step: f64, count: u64) -> f64 {
+    let mut sum = 0.0;
+    let mut i = 0;
+    while i < count {
+        sum += of(first + i as f64 * step);
+        i += 1;
+    }
+    sum
+}
+
+type Loop = fn(f64, f64, u64) -> f64;
+
+/// A function, the Rust's loop over it and the library's, and the arguments from the first to the last.
+struct Timed {
+    name: &'static str,
+    rust: Loop,
+    library: Loop,
+    first: f64,
+    last: f64,
+}
+
+const TIMED: [Timed; 4] = [
+    Timed {
+        name: "root",
+        rust: |first, step, count| sum(f64::sqrt, first, step, count),
+        library: |first, step, count| unsafe { sum_sqrt(first, step, count) },
+        first: 0.0,
+        last: 1e5,
+    },
+    Timed {
+        name: "E",
+        rust: |first, step, count| sum(f64::stand_in_exp, first, step, count),
+        library: |first, step, count| unsafe { sum_exp(first, step, count) },
+        first: -700.0,
+        last: 0.0,
+    },
+    Timed {
+        name: "S",
+        rust: |first, step, count| sum(f64::stand_in_sin, first, step, count),
+        library: |first, step, count| unsafe { sum_sin(first, step, count) },
+        first: 0.0,
+        last: 1e4,
+    },
+    Timed {
+        name: "C",
+        rust: |first, step, count| sum(f64::stand_in_cos, first, step, count),
+        library: |first, step, count| unsafe { sum_cos(first, step, count) },
+        first: 0.0,
+        last: PI,
+    },
+];
+
+/// Nanoseconds per call, and the sum.
+fn time(f: Loop, first: f64, last: f64) -> (f64, f64) {
+    let step = (last - first) / CALLS as f64;
+    let began = Instant::now();
+    let sum = f(black_box(first), black_box(step), black_box(CALLS));
+    (began.elapsed().as_nanos() as f64 / CALLS as f64, sum)
+}
+
+/// How many of the float operations drawn at random have other bits from the library.
+fn singles() -> usize {
+    let mut random = Random::new(1);
+    let mut expected = Vec::new();
+    let mut different = 0;
+    for _ in 0..SINGLE {
+        let job = draw::job(8, &mut random);
+        let (operation, a) = (job[1], double(job[2]));
+        let given = match operation {
+            0 => unsafe { sqrt_of(a) },
+            1 => unsafe { exp_of(a) },
+            2 => unsafe { sin_of(a) },
+            3 => unsafe { cos_of(a) },
+            _ => continue,
+        };
+        expected.clear();
+        answer(&mut job.into_iter(), &mut expected).expect("a whole job");
+        if bits(given) != expected[0] {
+            different += 1;
+            if different == 1 {
+                println!("{} of {a:e} differs", OPERATIONS[operation as usize]);
+            }
+        }
+    }
+    different
+}
+
+fn main() {
+    let mut different = singles();
+    let mut best = [[f64::INFINITY; 2]; TIMED.len()];
+    // In turns, so that a slow moment of the machine meets both, and the best of each counts.
+    for round in 0..ROUNDS {
+        for (timed, best) in TIMED.iter().zip(&mut best) {
+            let mut sums = [0.0; 2];
+            for which in [round % 2, (round + 1) % 2] {
+                let f = [timed.rust, timed.library][which];
+                let (ns, sum) = time(f, timed.first, timed.last);
+                best[which] = best[which].min(ns);
+                sums[which] = sum;
+            }
+            if round == 0 && bits(sums[0]) != bits(sums[1]) {
+                different += 1;
+                println!("the sums of {} differ", timed.name);
+            }
+        }
+    }
+    println!("ns per call      Rust   library     ratio");
+    for (timed, [rust, library]) in TIMED.iter().zip(best) {
+        println!("{:<10} {rust:>10.1} {library:>9.1} {:>9.2}", timed.name, library / rust);
+    }
+    let [root, e] = [best[0][1], best[1][1]];
+    println!("a root takes {:.2} of the time of two E", root / (2.0 * e));
+    println!("{different} results differ");
+    exit(if different == 0 { 0 } else { 1 });
+}

@@ -1,0 +1,72 @@
+-- The claims of specs/Claims.antt, proved. Assumes nothing.
+use mathlib.Core.Path.{_≡_, refl, sym, ap, _∙_, subst}
+use mathlib.Core.Logic.{_⊎_, inl, inr}
+use mathlib.Core.Bool.{true, false, not}
+use lib.Dec.{T}
+use lib.Ieee.{Float, nan, inf, fin, binary64, fits, isNan, le, mul, ofBits, toBits, size}
+use lib.Ieee.Bits.{ofBits-toBits}
+use lib.Ieee.Fits.{mul-fits}
+use lib.Ieee.Positive.{positive, above-of-le, mul-mono}
+use lib.Ieee.Scale.{finite}
+use Rattle.float64.specs.Constants.{nought, two, sqrt2}
+use Rattle.float64.specs.Root.{rootOf, floorRoot, nearestRoot}
+use Rattle.float64.specs.Pattern.{bitsOf, doubleOf}
+use Rattle.float64.specs.Claims.{leastSquarable, RootClaims, ExponentialClaims, WaveClaims, PatternClaims}
+use Rattle.float64.proofs.Order.{le-refl-float}
+use Rattle.float64.proofs.RootNearest.{root-is, root-only}
+use Rattle.float64.proofs.RootOfSquare.{root-le, above-finite}
+use Rattle.float64.proofs.ExpBound.{E-between}
+use Rattle.float64.proofs.WaveBound.{sine-within, cosine-within}
+
+two-root : rootOf two ≡ sqrt2
+unfolding rootOf floorRoot nearestRoot ofBits size
+two-root = refl
+
+-- ---- the root of a square
+zero-square : T (le (rootOf (mul binary64 nought nought)) nought)
+unfolding rootOf ofBits mul le
+zero-square = tt
+
+least-square : T (positive (mul binary64 leastSquarable leastSquarable))
+unfolding mul
+least-square = tt
+
+number : (x : Float) → T (le leastSquarable x) → T (finite (mul binary64 x x)) → T (positive x)
+unfolding le mul
+number nan h F = absurd h
+number (inf true) h F = absurd h
+number (inf false) h F = absurd F
+number (fin s m e) h F = above-finite (fin s m e) (above-of-le leastSquarable (fin s m e) tt h) tt
+
+no-nan : (x : Float) → T (finite x) → T (not (isNan x))
+unfolding isNan
+no-nan nan F = F
+no-nan (inf s) F = tt
+no-nan (fin s m e) F = tt
+
+of-square : (x : Float) → T (fits binary64 x) → (x ≡ nought) ⊎ T (le leastSquarable x) → T (finite (mul binary64 x x)) → T (le (rootOf (mul binary64 x x)) x)
+of-square x f (inl e) F = subst (λ (z : Float). T (le (rootOf (mul binary64 z z)) z)) (sym e) zero-square
+of-square x f (inr h) F =
+    let p = number x h F in
+    let s = mul binary64 x x in
+    let l : T (le (mul binary64 leastSquarable leastSquarable) s) = mul-mono binary64 leastSquarable x leastSquarable x tt p tt p h h in
+    let P : T (positive s) = above-finite s (above-of-le (mul binary64 leastSquarable leastSquarable) s least-square l) F in
+    root-le s x (mul-fits binary64 x x) f P p h F (le-refl-float s (no-nan s F))
+
+pub root-claims : RootClaims
+root-claims = record { nearest = root-is; only = root-only; of-square = of-square; of-two = two-root }
+
+pub exponential-claims : ExponentialClaims
+exponential-claims = record { between = E-between }
+
+pub wave-claims : WaveClaims
+wave-claims = record { sine = sine-within; cosine = cosine-within }
+
+bits-are : (x : Float) → bitsOf x ≡ toBits binary64 x
+unfolding bitsOf isNan toBits
+bits-are nan = refl
+bits-are (inf s) = refl
+bits-are (fin s m e) = refl
+
+pub pattern-claims : PatternClaims
+pattern-claims = record { back = λ (x : Float) (F : T (fits binary64 x)). ap doubleOf (bits-are x) ∙ ofBits-toBits binary64 x F }

@@ -1,0 +1,53 @@
+-- The claims speak of what the code returns: what a caller learns from a contract in src/, as Rattle reads its clauses, gives the claim of the result, and nothing is asked of the caller.
+-- Assumes nothing.
+use mathlib.Core.Path.{_≡_, sym, subst}
+use contract.Lifetimes.{Lfts}
+use borrow.Fn.World.{ArgsD, ResD}
+use borrow.Fn.Kinds.{endedOf}
+use denote.Triple.Clauses.{AtExit}
+use lib.Dec.{T}
+use lib.Ieee.{Float, binary64, fits, le}
+use Rattle.float64.specs.Constants.{nought, one}
+use Rattle.float64.specs.Root.{IsRoot}
+use Rattle.float64.specs.Claims.{InUnit}
+use Rattle.float64.proofs.Claims.{root-claims, exponential-claims, wave-claims}
+use Rattle.float64.proofs.root.sqrt as sqrt-contract
+use Rattle.float64.proofs.root.sqrt.Kinds as sqrt-kinds
+use Rattle.float64.proofs.root.sqrt.Reads as sqrt-reads
+use Rattle.float64.proofs.exponential.exp as exp-contract
+use Rattle.float64.proofs.exponential.exp.Kinds as exp-kinds
+use Rattle.float64.proofs.exponential.exp.Reads as exp-reads
+use Rattle.float64.proofs.wave.sin as sin-contract
+use Rattle.float64.proofs.wave.sin.Kinds as sin-kinds
+use Rattle.float64.proofs.wave.sin.Reads as sin-reads
+use Rattle.float64.proofs.wave.cos as cos-contract
+use Rattle.float64.proofs.wave.cos.Kinds as cos-kinds
+use Rattle.float64.proofs.wave.cos.Reads as cos-reads
+
+module _ (κs : Lfts 0) (a : ArgsD sqrt-contract.signature κs) (r : ResD sqrt-contract.signature κs) (e : AtExit (endedOf 0 sqrt-kinds.ps sqrt-kinds.r) κs) where
+  pub sqrt-any : sqrt-reads.Asked κs a
+  sqrt-any = tt
+
+  pub sqrt-root : sqrt-reads.Learnt κs a r e → T (fits binary64 (a .0)) → IsRoot (a .0) r
+  sqrt-root h k = subst (λ (y : Float). IsRoot (a .0) y) (sym h) (root-claims .nearest (a .0) k)
+
+module _ (κs : Lfts 0) (a : ArgsD exp-contract.signature κs) (r : ResD exp-contract.signature κs) (e : AtExit (endedOf 0 exp-kinds.ps exp-kinds.r) κs) where
+  pub exp-any : exp-reads.Asked κs a
+  exp-any = tt
+
+  pub exp-between : exp-reads.Learnt κs a r e → T (le (a .0) nought) → T (le nought r) × T (le r one)
+  exp-between h k = subst (λ (y : Float). T (le nought y) × T (le y one)) (sym h) (exponential-claims .between (a .0) k)
+
+module _ (κs : Lfts 0) (a : ArgsD sin-contract.signature κs) (r : ResD sin-contract.signature κs) (e : AtExit (endedOf 0 sin-kinds.ps sin-kinds.r) κs) where
+  pub sin-any : sin-reads.Asked κs a
+  sin-any = tt
+
+  pub sin-unit : sin-reads.Learnt κs a r e → InUnit r
+  sin-unit h = subst InUnit (sym h) (wave-claims .sine (a .0))
+
+module _ (κs : Lfts 0) (a : ArgsD cos-contract.signature κs) (r : ResD cos-contract.signature κs) (e : AtExit (endedOf 0 cos-kinds.ps cos-kinds.r) κs) where
+  pub cos-any : cos-reads.Asked κs a
+  cos-any = tt
+
+  pub cos-unit : cos-reads.Learnt κs a r e → InUnit r
+  cos-unit h = subst InUnit (sym h) (wave-claims .cosine (a .0))

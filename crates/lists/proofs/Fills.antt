@@ -1,0 +1,105 @@
+-- A loop that fills an array from the front: after i turns the array is `upto i f d`, d what it was before. Assumes nothing.
+use mathlib.Core.Path.{_≡_, refl, sym, ap, _∙_}
+use mathlib.Core.Bool.{Bool, true, false, cond}
+use mathlib.Core.Logic.{⊎-elim}
+use mathlib.Core.List.{List, [], _∷_, _++_}
+use Prim.Native.Nat.{ℕ, zero, suc, _+_, _≤_, _<_}
+use native.Mathlib.Nat.{not-suc-le-zero, eq-or-lt-of-le, le-of-suc-le-suc}
+use native.Mathlib.Numerals.{add-one}
+use native.Mathlib.Omega.{arith}
+use borrow.Author.Tests.{lt-ltb, le-ltb}
+use lib.Dec.{ltb}
+use lib.ListN.{length, getD, set, replicate, length-set, length-append, length-replicate, getD-replicate, List·getD-append}
+use lib.Seq.{getD-set-same, getD-set-other, ext-getD, getD-at}
+use Rattle.lists.specs.Tables.{tab, blank, over}
+use Rattle.lists.proofs.Counting.{lt-or-le}
+
+module _ {ℓ} {A : Type ℓ} where
+  -- the first n elements of d replaced by f 0, .., f (n - 1), by stores in order
+  unfoldable pub upto : ℕ → (ℕ → A) → List A → List A
+  upto zero f d = d
+  upto (suc n) f d = set (upto n f d) n (f n)
+
+  pub upto-none : (f : ℕ → A) (d : List A) → d ≡ upto 0 f d
+  unfolding upto
+  upto-none f d = refl
+
+  -- one store more
+  pub upto-more : (f : ℕ → A) (d : List A) {x : List A} {v : A} (i : ℕ) → x ≡ upto i f d → v ≡ f i → set x i v ≡ upto (i + 1) f d
+  unfolding upto
+  upto-more f d i e h = rw (add-one, e, h)
+
+  pub length-upto : (n : ℕ) (f : ℕ → A) (d : List A) → length (upto n f d) ≡ length d
+  unfolding upto
+  length-upto zero f d = refl
+  length-upto (suc n) f d = length-set (upto n f d) n (f n) ∙ length-upto n f d
+
+  pub getD-upto-in : (n : ℕ) (f : ℕ → A) (d : List A) (z : A) (k : ℕ) → k < n → k < length d → getD (upto n f d) k z ≡ f k
+  unfolding upto
+  getD-upto-in zero f d z k l m = absurd (not-suc-le-zero l)
+  getD-upto-in (suc n) f d z k l m =
+      ⊎-elim
+      (λ e. rw e (getD-set-same (upto n f d) n (f n) z (rw (length-upto n f d, ← e) m)))
+      (λ lt. getD-set-other (upto n f d) n k (f n) z (λ e. omega arith) ∙ getD-upto-in n f d z k lt m)
+      (eq-or-lt-of-le (le-of-suc-le-suc l))
+
+  pub getD-upto-out : (n : ℕ) (f : ℕ → A) (d : List A) (z : A) (k : ℕ) → n ≤ k → getD (upto n f d) k z ≡ getD d k z
+  unfolding upto
+  getD-upto-out zero f d z k l = refl
+  getD-upto-out (suc n) f d z k l =
+      getD-set-other (upto n f d) n k (f n) z (λ e. omega arith) ∙ getD-upto-out n f d z k (omega arith)
+
+  pub length-tab : (n : ℕ) (f : ℕ → A) → length (tab n f) ≡ n
+  unfolding tab
+  length-tab zero f = refl
+  length-tab (suc n) f = length-append (tab n f) _ ∙ omega (arith, length-tab n f)
+
+  pub getD-tab : (n : ℕ) (f : ℕ → A) (z : A) (k : ℕ) → k < n → getD (tab n f) k z ≡ f k
+  unfolding tab
+  getD-tab zero f z k l = absurd (not-suc-le-zero l)
+  getD-tab (suc n) f z k l =
+      ⊎-elim
+      (λ e. rw e (getD-at (tab n f) (f n) [] z n (length-tab n f)))
+      (λ lt. List·getD-append (tab n f) _ z k (rw length-tab lt) ∙ getD-tab n f z k lt)
+      (eq-or-lt-of-le (le-of-suc-le-suc l))
+
+  -- a list of n elements with f's at each index is tab n f
+  pub is-tab : (n : ℕ) (f : ℕ → A) (z : A) (x : List A) → length x ≡ n → ((k : ℕ) → k < n → getD x k z ≡ f k) → x ≡ tab n f
+  is-tab n f z x e h = ext-getD z x (tab n f) (e ∙ sym (length-tab n f)) (λ k l. h k (rw e at l) ∙ sym (getD-tab n f z k (rw e at l)))
+
+  -- a filled array that was z everywhere, and stays so past n
+  pub upto-blank : (n m : ℕ) (f : ℕ → A) (z : A) → n ≤ m → ((k : ℕ) → n ≤ k → f k ≡ z) → upto n f (blank m z) ≡ tab m f
+  unfolding blank
+  upto-blank n m f z l h =
+      is-tab m f z (upto n f (replicate m z)) (length-upto n f _ ∙ length-replicate m z)
+      (λ k lk. ⊎-elim
+      (λ a. getD-upto-in n f (replicate m z) z k a (rw length-replicate lk))
+      (λ b. getD-upto-out n f (replicate m z) z k b ∙ getD-replicate m k z z lk ∙ sym (h k b))
+      (lt-or-le k n))
+
+  -- an array of which the first n elements are written
+  pub upto-over : (n : ℕ) (f : ℕ → A) (z : A) (d : List A) → upto n f d ≡ over n f z d
+  unfolding over
+  upto-over n f z d =
+      is-tab (length d) (λ i. cond (ltb i n) (f i) (getD d i z)) z (upto n f d) (length-upto n f d)
+      (λ k lk. ⊎-elim
+      (λ a. rw (lt-ltb k n a) (getD-upto-in n f d z k a lk))
+      (λ b. rw (le-ltb k n b) (getD-upto-out n f d z k b))
+      (lt-or-le k n))
+
+  pub length-over : (n : ℕ) (f : ℕ → A) (z : A) (d : List A) → length (over n f z d) ≡ length d
+  unfolding over
+  length-over n f z d = length-tab (length d) _
+
+  pub length-blank : (n : ℕ) (z : A) → length (blank n z) ≡ n
+  unfolding blank
+  length-blank n z = length-replicate n z
+
+  -- the same said of each index: one store more
+  pub points-more : (z : A) (f : ℕ → A) (x : List A) (v : A) (i : ℕ) → i < length x
+      → ((j : ℕ) → j < i → getD x j z ≡ f j) → v ≡ f i → (j : ℕ) → j < i + 1 → getD (set x i v) j z ≡ f j
+  points-more z f x v i l all h j m =
+      ⊎-elim
+      (λ e. rw e (getD-set-same x i v z l ∙ h))
+      (λ lt. getD-set-other x i j v z (λ e. omega arith) ∙ all j lt)
+      (eq-or-lt-of-le (let q : j ≤ i = omega arith in q))

@@ -1,0 +1,4 @@
+pub mod Counting
+pub mod Fills
+pub mod Scanning
+pub mod Folds
