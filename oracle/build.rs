@@ -24,13 +24,19 @@ fn edited(published: &str) -> String {
     let mut text = published.to_string();
     for (find, replace, times) in EDITS {
         let found = text.matches(find).count();
-        assert!(found == times, "{find:?} is found {found} times, and not {times}");
+        assert!(
+            found == times,
+            "{find:?} is found {found} times, and not {times}"
+        );
         text = text.replace(find, replace);
     }
     // Undone, the edits give back what was published: nothing else was changed.
     let mut undone = text.clone();
     for (find, replace, times) in EDITS.into_iter().rev() {
-        assert!(undone.matches(replace).count() == times, "{replace:?} is there without an edit");
+        assert!(
+            undone.matches(replace).count() == times,
+            "{replace:?} is there without an edit"
+        );
         undone = undone.replace(replace, find);
     }
     assert!(undone == published, "the edits change more than they say");
@@ -44,7 +50,8 @@ fn main() {
     println!("cargo:rerun-if-changed={}", source.display());
     println!("cargo:rerun-if-changed={HOOKS}");
     println!("cargo:rerun-if-changed=build.rs");
-    let published = fs::read_to_string(&source).unwrap_or_else(|e| panic!("{}: {e}", source.display()));
+    let published =
+        fs::read_to_string(&source).unwrap_or_else(|e| panic!("{}: {e}", source.display()));
     let hooks = fs::read_to_string(HOOKS).unwrap_or_else(|e| panic!("{HOOKS}: {e}"));
 
     // A file of its own, since a text that begins with comments on its module cannot be included.

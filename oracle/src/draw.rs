@@ -77,7 +77,11 @@ fn some_exponent(random: &mut Random) -> f64 {
 fn whole(random: &mut Random) -> f64 {
     let places = random.below(53);
     let n = random.bits() >> (63 - places);
-    let n = if random.below(3) == 0 { (n >> places / 2).pow(2) } else { n };
+    let n = if random.below(3) == 0 {
+        (n >> (places / 2 + 1)).pow(2)
+    } else {
+        n
+    };
     if random.below(4) == 0 {
         -(n as f64)
     } else {

@@ -16,7 +16,10 @@ pub struct Numbers<R> {
 
 impl<R: Read> Numbers<R> {
     pub fn new(input: R) -> Self {
-        Numbers { input, line: [0; LINE] }
+        Numbers {
+            input,
+            line: [0; LINE],
+        }
     }
 }
 
@@ -81,4 +84,52 @@ pub fn bits(x: f64) -> u64 {
 pub fn alike(a: u64, b: u64) -> bool {
     let (x, y) = (f64::from_bits(a), f64::from_bits(b));
     a == b || x == y || (x.is_nan() && y.is_nan())
+}
+
+#[cfg(test)]
+mod tests {
+    use super::*;
+
+    fn read(text: &str) -> Vec<u64> {
+        Numbers::new(text.as_bytes()).collect()
+    }
+
+    #[test]
+    fn written_and_read() {
+        for n in [0, 9, 10, NAN, u64::MAX] {
+            let mut line = Vec::new();
+            write_number(&mut line, n).unwrap();
+            assert_eq!(line.len(), LINE);
+            assert_eq!(Numbers::new(&line[..]).collect::<Vec<u64>>(), [n]);
+        }
+    }
+
+    #[test]
+    fn other_forms() {
+        assert_eq!(
+            read("                    7\n                    8\n"),
+            [7, 8]
+        );
+        assert_eq!(read("000000000000000000007\n"), [7]);
+        let nothing: [u64; 0] = [];
+        for line in [
+            "                     \n",
+            "                   7 \n",
+            "                  7 7\n",
+            "                   -7\n",
+            " 18446744073709551616\n",
+            "                    7 ",
+            "                    7",
+        ] {
+            assert_eq!(read(line), nothing);
+        }
+    }
+
+    #[test]
+    fn alike_or_not() {
+        assert!(alike(0, 1 << 63));
+        assert!(alike(NAN, u64::MAX));
+        assert!(!alike(0, 1));
+        assert!(!alike(NAN, f64::INFINITY.to_bits()));
+    }
 }

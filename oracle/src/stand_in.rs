@@ -16,7 +16,7 @@ impl StandIn for f64 {
         }
         let y = self / 1024.0;
         let mut p = 1.0;
-        for k in (1..=18).rev() {
+        for k in (1..19).rev() {
             p = 1.0 + (y * p) / f64::from(k);
         }
         for _ in 0..10 {
@@ -34,7 +34,7 @@ impl StandIn for f64 {
             r -= w;
         }
         let mut q = 1.0;
-        for k in (1..=13).rev() {
+        for k in (1..14).rev() {
             q = 1.0 - ((r * r) * q) / f64::from(2 * k * (2 * k + 1));
         }
         (r * q).clamp(-1.0, 1.0)
@@ -43,9 +43,43 @@ impl StandIn for f64 {
     /// C: 13 terms at t as it is.
     fn stand_in_cos(self) -> f64 {
         let mut q = 1.0;
-        for k in (1..=13).rev() {
+        for k in (1..14).rev() {
             q = 1.0 - ((self * self) * q) / f64::from((2 * k - 1) * (2 * k));
         }
         q.clamp(-1.0, 1.0)
+    }
+}
+
+#[cfg(test)]
+mod tests {
+    use super::*;
+
+    #[test]
+    fn worked_examples() {
+        assert_eq!(0.0.stand_in_exp(), 1.0);
+        assert_eq!((-701.0).stand_in_exp(), 0.0);
+        assert_eq!(0.0.stand_in_sin(), 0.0);
+        assert_eq!(0.0.stand_in_cos(), 1.0);
+    }
+
+    #[test]
+    fn near_what_they_stand_for() {
+        for k in 0..=1000 {
+            let part = f64::from(k) / 1000.0;
+            let (t, turn, half) = (-700.0 * part, 100.0 * part, PI * part);
+            assert!((t.stand_in_exp() - t.exp()).abs() <= 1e-12 * t.exp());
+            assert!((turn.stand_in_sin() - turn.sin()).abs() <= 1e-12);
+            assert!((half.stand_in_cos() - half.cos()).abs() <= 1e-12);
+        }
+    }
+
+    #[test]
+    fn total() {
+        for x in [f64::INFINITY, f64::NEG_INFINITY, f64::NAN] {
+            assert!(x.stand_in_sin().is_nan());
+        }
+        assert_eq!(f64::NEG_INFINITY.stand_in_exp(), 0.0);
+        assert!(f64::NAN.stand_in_exp().is_nan());
+        assert!(f64::NAN.stand_in_cos().is_nan());
     }
 }

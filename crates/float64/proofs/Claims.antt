@@ -1,21 +1,26 @@
 -- The claims of specs/Claims.antt, proved. Assumes nothing.
 use mathlib.Core.Path.{_≡_, refl, sym, ap, _∙_, subst}
 use mathlib.Core.Logic.{_⊎_, inl, inr}
-use mathlib.Core.Bool.{true, false, not}
+use mathlib.Core.Bool.{Bool, true, false, not}
+use Prim.Native.Nat.{ℕ, _*_, _/_}
+use lib.IntN.{ℤ}
 use lib.Dec.{T}
-use lib.Ieee.{Float, nan, inf, fin, binary64, fits, isNan, le, mul, ofBits, toBits, size}
+use lib.Ieee.{Float, nan, inf, fin, binary64, up, down, fits, isNan, le, mul, ofBits, toBits, size}
 use lib.Ieee.Bits.{ofBits-toBits}
+use lib.Ieee.Exact.{HasValue}
 use lib.Ieee.Fits.{mul-fits}
 use lib.Ieee.Positive.{positive, above-of-le, mul-mono}
 use lib.Ieee.Scale.{finite}
 use Rattle.float64.specs.Constants.{nought, two, sqrt2}
 use Rattle.float64.specs.Root.{rootOf, floorRoot, nearestRoot}
+use Rattle.float64.specs.Wave.{wholePart}
 use Rattle.float64.specs.Pattern.{bitsOf, doubleOf}
 use Rattle.float64.specs.Claims.{leastSquarable, RootClaims, ExponentialClaims, WaveClaims, PatternClaims}
 use Rattle.float64.proofs.Order.{le-refl-float}
 use Rattle.float64.proofs.RootNearest.{root-is, root-only}
 use Rattle.float64.proofs.RootOfSquare.{root-le, above-finite}
 use Rattle.float64.proofs.ExpBound.{E-between}
+use Rattle.float64.proofs.Whole.{whole-exact}
 use Rattle.float64.proofs.WaveBound.{sine-within, cosine-within}
 
 two-root : rootOf two ≡ sqrt2
@@ -59,8 +64,12 @@ root-claims = record { nearest = root-is; only = root-only; of-square = of-squar
 pub exponential-claims : ExponentialClaims
 exponential-claims = record { between = E-between }
 
+whole-is : (s : Bool) (m : ℕ) (e : ℤ) → T (fits binary64 (fin s m e)) → HasValue (wholePart (fin s m e)) s (m * up e / down e) 1
+unfolding wholePart
+whole-is = whole-exact
+
 pub wave-claims : WaveClaims
-wave-claims = record { sine = sine-within; cosine = cosine-within }
+wave-claims = record { whole = whole-is; sine = sine-within; cosine = cosine-within }
 
 bits-are : (x : Float) → bitsOf x ≡ toBits binary64 x
 unfolding bitsOf isNan toBits

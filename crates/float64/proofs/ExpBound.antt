@@ -1,14 +1,14 @@
 -- For t ≤ 0, E t lies between 0 and 1. Assumes nothing.
-use mathlib.Core.Path.{_≡_, refl, sym, ap, _∙_, subst}
-use mathlib.Core.Logic.{_⊎_, inl, inr}
-use mathlib.Core.Bool.{Bool, true, false, not, cond, true≢false}
+use mathlib.Core.Path.{_≡_, refl, sym, subst}
+use mathlib.Core.Logic.{inl, inr}
+use mathlib.Core.Bool.{Bool, true, false, cond, true≢false}
 use Prim.Native.Nat.{ℕ, zero, suc, _*_, _≤_, _<_}
-use native.Mathlib.Nat.{zero-lt-suc, le-trans, le-of-eq, one-mul, mul-one, zero-mul, mul-pos}
+use native.Mathlib.Nat.{zero-lt-suc, mul-pos}
 use native.Mathlib.Omega.{arith}
 use borrow.Author.Tests.{ltb-false}
 use lib.IntN.{pos}
-use lib.Dec.{T, ltb, lit<}
-use lib.Ieee.{Float, nan, inf, fin, binary64, unlike, up, down, lt, le, neg, ofBits, ofInt, round, add, mul, div}
+use lib.Dec.{T, lit<}
+use lib.Ieee.{Float, nan, inf, fin, binary64, up, down, lt, le, neg, ofBits, ofInt, round, add, mul, div}
 use lib.Ieee.Fits.{down-pos}
 use lib.Ieee.Order.{round-mono}
 use Rattle.float64.specs.Constants.{nought, one, k700, k1024}

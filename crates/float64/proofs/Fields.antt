@@ -1,17 +1,17 @@
 -- A double above zero by its bit pattern, and back. Assumes nothing.
 use mathlib.Core.Path.{_≡_, refl, sym, ap, _∙_, subst}
-use mathlib.Core.Logic.{_⊎_, inl, inr}
-use mathlib.Core.Bool.{Bool, true, false, not, cond, true≢false}
+use mathlib.Core.Logic.{inl, inr}
+use mathlib.Core.Bool.{Bool, true, false, not, cond}
 use Prim.Native.Nat.{ℕ, zero, suc, _+_, _-_, _*_, _/_, _%_, _^_, _≤_, _<_}
-use native.Mathlib.Nat.{add-comm, mul-assoc, mul-comm, mul-left-comm, mul-right-comm, pow-suc, mod-eq-of-lt, eq-or-lt-of-le, mul-one, lt-of-lt-of-le, lt-irrefl}
+use native.Mathlib.Nat.{pow-suc, mod-eq-of-lt, eq-or-lt-of-le, mul-one}
 use native.Mathlib.Omega.{arith}
 use borrow.Author.Tests.{leb-false, eqb-false, ne-eqb, le-ltb, lt-leb}
 use lib.Dec.{T, leb, ltb, eqb}
-use lib.Pow.{pow-pos, pow-add}
-use lib.Ieee.{Float, nan, inf, fin, Format, binary64, fits, isNan, odd, ofFields, ofBits, toBits, nanBits}
+use lib.Pow.{pow-pos}
+use lib.Ieee.{Float, nan, inf, fin, binary64, fits, isNan, odd, ofFields, ofBits, toBits, nanBits}
 use lib.Ieee.Exact.{HasValue, odd-sign}
 use lib.Ieee.Positive.{positive, value-pos}
-use lib.Ieee.Bits.{ofBits-toBits, toBits-lt, nanBits-above}
+use lib.Ieee.Bits.{ofBits-toBits, nanBits-above}
 
 pub no-nan : (x : Float) → T (positive x) → T (not (isNan x))
 unfolding isNan

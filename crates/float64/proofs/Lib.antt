@@ -18,3 +18,4 @@ pub mod RoundError
 pub mod RootOfSquare
 pub mod Claims
 pub mod Tied
+mod Controls

@@ -1,13 +1,12 @@
 -- Order laws of `le` and `lt` at every float, zeros of both signs and infinities included. Assumes nothing.
 use mathlib.Core.Path.{_≡_, refl, sym, ap, _∙_, subst}
 use mathlib.Core.Logic.{_⊎_, inl, inr}
-use mathlib.Core.Bool.{Bool, true, false, not, _&&_, _||_, cond, true≢false, Bool·beq}
-use Prim.Native.Nat.{ℕ, zero, suc, _+_, _*_, _≤_, _<_}
-use native.Mathlib.Nat.{le-trans, le-of-eq, zero-mul, mul-pos, mul-right-comm, mul-le-mul-right, le-of-mul-le-mul-right, eq-of-mul-eq-mul-right, eq-or-lt-of-le, eq-zero-or-pos}
+use mathlib.Core.Bool.{Bool, true, false, not, _&&_, _||_, true≢false}
+use Prim.Native.Nat.{ℕ, _+_, _*_, _≤_, _<_}
+use native.Mathlib.Nat.{le-trans, le-of-eq, zero-mul, eq-of-mul-eq-mul-right, eq-or-lt-of-le, eq-zero-or-pos}
 use native.Mathlib.Omega.{arith}
-use borrow.Author.Tests.{ltb-false, ltb-true}
-use lib.IntN.{ℤ}
-use lib.Dec.{T, ltb, eqb, lt→ltb, ltb→lt, eqb→eq, eqb-refl}
+use borrow.Author.Tests.{ltb-false}
+use lib.Dec.{T, ltb, eqb, lt→ltb, ltb→lt, eqb→eq}
 use lib.Ieee.{Float, nan, inf, fin, up, down, below, level, isNan, lt, le, eq}
 use lib.Ieee.Fits.{down-pos, and-i, and-l, and-r, eq→eqb}
 use lib.Ieee.Positive.{through}

@@ -1,10 +1,9 @@
 -- S's reduction and S's and C's divisors as the code finds them. Assumes nothing.
-use mathlib.Core.Path.{_≡_, refl, sym, ap, _∙_}
+use mathlib.Core.Path.{_≡_}
 use mathlib.Core.Bool.{true, false}
-use Prim.Native.Nat.{ℕ, zero, suc, _+_, _-_, _*_, _^_, _≤_, _<_}
-use native.Mathlib.Nat.{mul-comm, mul-le-mul, le-trans}
+use Prim.Native.Nat.{ℕ, _+_, _-_, _*_, _≤_}
+use native.Mathlib.Nat.{mul-comm, mul-le-mul}
 use native.Mathlib.Omega.{arith}
-use lib.Dec.{lit≤}
 use lib.Ieee.{Float, binary64, lt, sub, mul, div}
 use Rattle.float64.specs.Constants.{pi, turn}
 use Rattle.float64.specs.Wave.{wholePart, reducedAngle, divisor, sineDivisor, cosineDivisor}

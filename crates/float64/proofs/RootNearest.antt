@@ -3,21 +3,20 @@ use mathlib.Core.Path.{_≡_, refl, sym, ap, _∙_, subst}
 use mathlib.Core.Logic.{_⊎_, inl, inr}
 use mathlib.Core.Bool.{Bool, true, false}
 use Prim.Native.Nat.{ℕ, zero, suc, _+_, _-_, _*_, _/_, _%_, _^_, _≤_, _<_}
-use native.Mathlib.Nat.{le-trans, le-of-eq, le-of-lt, lt-of-lt-of-le, lt-of-le-of-lt, lt-of-not-le, not-le-of-lt, le-of-suc-le-suc, lt-irrefl, eq-or-lt-of-le, eq-of-mul-eq-mul-right, mul-le-mul, mul-le-mul-right, mul-lt-mul-of-pos-right, mul-lt-mul-of-pos-left, mul-assoc, mul-pos, two-mul, zero-lt-suc, add-comm}
+use native.Mathlib.Nat.{le-trans, le-of-eq, le-of-lt, lt-of-lt-of-le, lt-of-le-of-lt, lt-of-not-le, not-le-of-lt, le-of-suc-le-suc, eq-or-lt-of-le, eq-of-mul-eq-mul-right, mul-le-mul, mul-le-mul-right, mul-lt-mul-of-pos-right, mul-lt-mul-of-pos-left, mul-assoc, mul-pos, two-mul, zero-lt-suc, add-comm}
 use native.Mathlib.Omega.{arith}
 use borrow.Author.Tests.{ltb-true, ltb-false}
 use lib.Dec.{T, ltb, lt→ltb}
 use lib.Pow.{pow-add, pow-pos, pow-mono}
-use lib.Ieee.{Float, nan, inf, fin, binary64, fits, up, down, ofBits, toBits}
+use lib.Ieee.{Float, nan, inf, fin, binary64, fits, down, toBits}
 use lib.Ieee.Bits.{ofBits-fits}
 use lib.Ieee.Digits.{back}
 use lib.Ieee.Fits.{down-pos}
-use lib.Ieee.Exact.{HasValue}
 use lib.Ieee.Positive.{positive, positive-of-value}
-use Rattle.float64.specs.Root.{Units, radicand, AsNear, NearestRoot, IsRoot, rootAt, rootOf}
+use Rattle.float64.specs.Root.{Units, radicand, AsNear, NearestRoot, IsRoot, rootOf}
 use Rattle.float64.specs.RootDigits.{Placed}
 use Rattle.float64.proofs.Fields.{read, unitsAt}
-use Rattle.float64.proofs.RootPlace.{Rooted, rooted}
+use Rattle.float64.proofs.RootPlace.{rooted}
 use Rattle.float64.proofs.SameValue.{same-value}
 
 -- a double is one number of units

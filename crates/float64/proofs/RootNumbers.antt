@@ -1,11 +1,13 @@
 -- Whole numbers under a root: its digits, its rounding, its scale. Assumes nothing.
 use mathlib.Core.Path.{_≡_, refl, sym, ap, _∙_, subst}
+use mathlib.Core.Bool.{Bool, true, false, cond}
 use Prim.Native.Nat.{ℕ, zero, suc, _+_, _-_, _*_, _/_, _%_, _^_, _≤_, _<_}
 use native.Mathlib.Nat.{mul-le-mul-right, mul-lt-mul-of-pos-right, lt-of-lt-of-le, lt-of-le-of-lt, le-trans, le-of-eq, lt-of-not-le, not-le-of-lt, le-of-suc-le-suc, lt-irrefl, mul-le-mul, mul-le-mul-left, mul-one, mul-comm, mul-assoc}
 use native.Mathlib.Omega.{arith}
-use lib.Dec.{lit≤}
+use borrow.Author.Tests.{leb-true, leb-false}
+use lib.Dec.{leb, lit≤}
 use lib.Pow.{pow-add, pow-pos, shr-shr}
-use Rattle.float64.specs.RootDigits.{NearestWhole, Placed}
+use Rattle.float64.specs.RootDigits.{FloorOf, NearestWhole, Placed}
 
 pub sq-lt : (r : ℕ) → r * r < 2 ^ 106 → r < 2 ^ 53
 sq-lt r h = lt-of-not-le (λ (g : 2 ^ 53 ≤ r). not-le-of-lt h (mul-le-mul g g))
@@ -104,3 +106,29 @@ pub more-places : (w m : ℕ) → 0 < w → w ≤ 1022 → 2 ^ (1022 - w) ≤ m 
 more-places w m h k l =
     let d : 1022 - (w - 1) ≡ 1022 - w + 1 = omega arith in
     subst (λ (z : ℕ). 2 ^ z ≤ m * 2) (sym d) (le-trans (le-of-eq (pow-add 2 (1022 - w) 1)) (mul-le-mul-right 2 l))
+
+-- ---- one digit more
+-- a is the root so far and b what is left; the digit is 1, and takes 4 a + 1, where b has as much
+module _ (a b two : ℕ) (small : b ≤ 2 * a) (less : two < 4) where
+  by-digit : (t : Bool) → leb (a * 4 + 1) (b * 4 + two) ≡ t → FloorOf (4 * (a * a + b) + two) (a * 2 + cond t 1 0) (b * 4 + two - cond t (a * 4 + 1) 0)
+  by-digit true e = let h = leb-true (a * 4 + 1) (b * 4 + two) e in record { split = omega arith; small = omega arith }
+  by-digit false e = let h = leb-false (a * 4 + 1) (b * 4 + two) e in record { split = omega arith; small = omega arith }
+
+  pub digit-more : (d k : ℕ) → d ≡ cond (leb (a * 4 + 1) (b * 4 + two)) 1 0 → k ≡ cond (leb (a * 4 + 1) (b * 4 + two)) (a * 4 + 1) 0
+      → FloorOf (4 * (a * a + b) + two) (a * 2 + d) (b * 4 + two - k)
+  digit-more d k p q = rw (p, q) (by-digit (leb (a * 4 + 1) (b * 4 + two)) refl)
+
+pub most : (t rest v r m : ℕ) → r ≡ cond (leb t rest) v 0 → v ≤ m → r ≤ m
+most t rest v r m e h = by (leb t rest) e
+  where
+    by : (b : Bool) → r ≡ cond b v 0 → r ≤ m
+    by true e = le-trans (le-of-eq e) h
+    by false e = le-trans (le-of-eq e) (omega arith)
+
+-- what is taken is there
+pub enough : (t rest r : ℕ) → r ≡ cond (leb t rest) t 0 → r ≤ rest
+enough t rest r e = by (leb t rest) refl e
+  where
+    by : (b : Bool) → leb t rest ≡ b → r ≡ cond b t 0 → r ≤ rest
+    by true f e = le-trans (le-of-eq e) (leb-true t rest f)
+    by false f e = le-trans (le-of-eq e) (omega arith)

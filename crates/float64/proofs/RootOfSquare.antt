@@ -1,11 +1,10 @@
 -- The root of a rounded square is at most the number, where the square neither overflows nor underflows. Assumes nothing.
 use mathlib.Core.Path.{_≡_, refl, sym, ap, _∙_, subst}
 use mathlib.Core.Logic.{_⊎_, inl, inr}
-use mathlib.Core.Bool.{Bool, true, false, not, cond, true≢false}
+use mathlib.Core.Bool.{true, false}
 use Prim.Native.Nat.{ℕ, zero, suc, _+_, _-_, _*_, _/_, _%_, _^_, _≤_, _<_}
-use native.Mathlib.Nat.{le-trans, le-of-eq, le-of-lt, lt-of-lt-of-le, lt-of-le-of-lt, lt-of-not-le, not-le-of-lt, mul-le-mul, mul-le-mul-right, mul-le-mul-left, mul-lt-mul-of-pos-right, mul-comm, mul-assoc, mul-left-comm, mul-right-comm, mul-pos, mul-one, one-mul, eq-or-lt-of-le, eq-zero-or-pos, le-of-mul-le-mul-right, le-of-suc-le-suc, two-mul, pow-suc, zero-lt-suc, add-le-add}
+use native.Mathlib.Nat.{le-trans, le-of-eq, le-of-lt, lt-of-lt-of-le, lt-of-not-le, not-le-of-lt, mul-le-mul, mul-le-mul-right, mul-le-mul-left, mul-lt-mul-of-pos-right, mul-assoc, mul-pos, mul-one, one-mul, eq-or-lt-of-le, eq-zero-or-pos, le-of-mul-le-mul-right, le-of-suc-le-suc, two-mul, pow-suc, zero-lt-suc, add-le-add}
 use native.Mathlib.Omega.{arith}
-use lib.IntN.{negsuc}
 use lib.Dec.{T, lit≤, lit<}
 use lib.Pow.{pow-add, pow-pos, pow-mono}
 use lib.Ieee.{Float, nan, inf, fin, binary64, fits, toBits, mul, le, round}
@@ -16,9 +15,9 @@ use lib.Ieee.Positive.{positive, values-of-le, mul-at, above, above-of-le}
 use Rattle.float64.specs.Root.{radicand, rootOf}
 use Rattle.float64.specs.RootDigits.{Placed}
 use Rattle.float64.specs.Claims.{leastSquarable}
-use Rattle.float64.proofs.Fields.{Read, read, unitsAt}
-use Rattle.float64.proofs.RootPlace.{Rooted, rooted}
-use Rattle.float64.proofs.RoundError.{Half, grid-half, drop-reaches}
+use Rattle.float64.proofs.Fields.{read, unitsAt}
+use Rattle.float64.proofs.RootPlace.{rooted}
+use Rattle.float64.proofs.RoundError.{grid-half, drop-reaches}
 
 -- y is Q * 2 ^ k units, with all 53 digits, and 2 ^ -511 at least
 pub record Normal (y : Float) : Type 0 where

@@ -2,7 +2,7 @@
 use mathlib.Core.Path.{_≡_, refl, sym, ap, _∙_, subst}
 use mathlib.Core.Bool.{Bool, true, false, not, cond}
 use Prim.Native.Nat.{ℕ, zero, suc, _+_, _-_, _*_, _/_, _%_, _^_, _≤_, _<_}
-use native.Mathlib.Nat.{le-trans, le-of-eq, lt-of-lt-of-le, lt-of-le-of-lt, lt-of-not-le, not-le-of-lt, le-of-suc-le-suc, add-comm, mul-le-mul, mul-le-mul-right, mul-lt-mul-of-pos-right, mul-div-cancel, div-mul-le-self, div-lt-iff-lt-mul, le-div-iff-mul-le, le-of-mul-le-mul-right, mul-comm, mul-assoc, mul-left-comm, mul-right-comm, mul-pos, one-mul, zero-lt-suc}
+use native.Mathlib.Nat.{le-trans, le-of-eq, lt-of-lt-of-le, lt-of-le-of-lt, lt-of-not-le, not-le-of-lt, le-of-suc-le-suc, add-comm, mul-le-mul, mul-le-mul-right, mul-lt-mul-of-pos-right, mul-div-cancel, div-mul-le-self, div-lt-iff-lt-mul, le-div-iff-mul-le, le-of-mul-le-mul-right, mul-comm, mul-assoc, mul-left-comm, mul-right-comm, mul-pos, one-mul}
 use native.Mathlib.Omega.{arith}
 use lib.Dec.{T, leb, ltb, leb→le, nleb→lt, ltb→lt, nltb→le, lit≤}
 use lib.Pow.{pow-add, pow-pos, pow-mono}
@@ -13,7 +13,7 @@ use lib.Ieee.Exact.{HasValue}
 use lib.Ieee.Positive.{positive, value-pos}
 use Rattle.float64.specs.Root.{Units, radicand, floorRoot, nearestRoot, lastPlace, rootAt, rootOf}
 use Rattle.float64.specs.RootDigits.{Placed, RootPattern, Shifted}
-use Rattle.float64.proofs.Fields.{Read, read, unitsAt, Made, made}
+use Rattle.float64.proofs.Fields.{Read, read, unitsAt, made}
 use Rattle.float64.proofs.RootNumbers.{sq-lt}
 
 -- ---- floorRoot

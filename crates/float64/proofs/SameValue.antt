@@ -1,5 +1,5 @@
 -- Two doubles of one value are one double, and a double is what its own value rounds to. Assumes nothing.
-use mathlib.Core.Path.{_≡_, refl, sym, ap, _∙_, subst}
+use mathlib.Core.Path.{_≡_, refl, sym, ap, _∙_}
 use mathlib.Core.Bool.{Bool, true, false, not, _&&_, cond}
 use Prim.Native.Nat.{ℕ, zero, suc, _+_, _-_, _*_, _/_, _%_, _^_, _≤_, _<_}
 use native.Mathlib.Nat.{le-of-suc-le-suc, lt-of-not-le, not-le-of-lt, lt-of-lt-of-le, lt-of-le-of-lt, le-of-eq, mul-one, mul-comm, mul-assoc, mul-right-comm, mul-lt-mul-of-pos-right, lt-of-mul-lt-mul-right, zero-mul}
@@ -10,7 +10,7 @@ use lib.Pow.{pow-add, pow-pos, pow-lt}
 use lib.Ieee.{Float, nan, inf, fin, Format, prec, emax, low, hid, top, up, down, size, odd, units, round, neg, fits, toBits, ofBits}
 use lib.Ieee.Bits.{ofBits-toBits}
 use lib.Ieee.Digits.{back}
-use lib.Ieee.Fits.{core, up-pos, down-pos, and-l, and-r, round-is, round-fits}
+use lib.Ieee.Fits.{up-pos, down-pos, and-l, and-r, round-is, round-fits}
 use lib.Ieee.Exact.{HasValue, round-exact}
 use lib.Ieee.Nearest.{div-same}
 
@@ -69,7 +69,8 @@ fit f s (suc m) e t =
       under = ltb→lt (suc m * up e) (2 ^ suc (emax f) * down e) (and-r (a && b && c) d t);
     }
 
-exact-fit : (f : Format) (s : Bool) (m : ℕ) (e : ℤ) → Fit f m e → HasValue (round f s (m * up e) (down e)) s (m * up e) (down e)
+-- the value of a double is rounded to itself
+pub exact-fit : (f : Format) (s : Bool) (m : ℕ) (e : ℤ) → Fit f m e → HasValue (round f s (m * up e) (down e)) s (m * up e) (down e)
 exact-fit f s m (pos k) h =
     let l = low f in
     round-exact f s (m * 2 ^ k) 1 m (k + l) (lit< tt) (h .short)

@@ -1,13 +1,13 @@
 -- What a test on doubles says. Assumes nothing.
 use mathlib.Core.Path.{_≡_, refl, sym, ap, _∙_, subst}
-use mathlib.Core.Bool.{Bool, true, false, not, _&&_, _||_, true≢false, Bool·beq}
+use mathlib.Core.Bool.{Bool, true, false, not, _&&_, _||_, Bool·beq}
 use Prim.Native.Nat.{ℕ, _+_, _*_, _≤_, _<_}
 use native.Mathlib.Nat.{le-trans, mul-right-comm, mul-pos, mul-le-mul-right, lt-of-mul-lt-mul-right, mul-lt-mul-of-pos-right}
 use native.Mathlib.Omega.{arith}
 use lib.IntN.{ℤ, pos}
-use lib.Dec.{T, ltb, eqb, ltb→lt, lt→ltb, eqb→eq, eqb-refl}
-use lib.Ieee.{Float, nan, inf, fin, up, down, isNan, lt, le, eq, ne}
-use lib.Ieee.Fits.{up-pos, down-pos, and-l, and-i}
+use lib.Dec.{T, eqb, ltb→lt, lt→ltb, eqb-refl}
+use lib.Ieee.{Float, nan, inf, fin, up, down, isNan, lt, eq, ne}
+use lib.Ieee.Fits.{up-pos, down-pos, and-i}
 use lib.Ieee.Bits.{is-true}
 
 beq-refl : (s : Bool) → Bool·beq s s ≡ true

@@ -1,19 +1,19 @@
 -- Values of size at most 1, with a sign: rounding, a product, a quotient by 1 or more, and 1 + z for z in [-1, 0] stay there. Assumes nothing.
 use mathlib.Core.Path.{_≡_, refl, sym, ap, _∙_, subst}
 use mathlib.Core.Logic.{_⊎_, inl, inr}
-use mathlib.Core.Bool.{Bool, true, false, not, _&&_, _||_, cond, true≢false}
+use mathlib.Core.Bool.{Bool, true, false, cond, true≢false}
 use Prim.Native.Nat.{ℕ, zero, suc, _+_, _-_, _*_, _^_, _≤_, _<_}
-use native.Mathlib.Nat.{zero-lt-suc, le-refl, le-trans, le-of-eq, le-of-lt, lt-of-le-of-lt, not-le-of-lt, sub-le, one-mul, mul-one, zero-mul, mul-zero, mul-comm, mul-le-mul, mul-le-mul-right, le-of-mul-le-mul-right, eq-of-mul-eq-mul-right, mul-pos}
+use native.Mathlib.Nat.{zero-lt-suc, le-refl, le-trans, le-of-eq, lt-of-le-of-lt, not-le-of-lt, sub-le, one-mul, mul-one, zero-mul, mul-zero, mul-comm, mul-le-mul, mul-le-mul-right, le-of-mul-le-mul-right, eq-of-mul-eq-mul-right, mul-pos}
 use native.Mathlib.Omega.{arith}
-use lib.IntN.{ℤ, pos}
-use lib.Dec.{T, ltb, eqb, ltb→lt, nltb→le, eqb→eq, eqb·suc-zero, lit<, lit≤}
+use lib.IntN.{pos}
+use lib.Dec.{T, ltb, eqb, ltb→lt, eqb·suc-zero, lit<, lit≤}
 use lib.Pow.{pow-pos, pow-lt}
 use lib.Ieee.{Float, nan, inf, fin, Format, binary32, binary64, prec, emax, low, unlike, up, down, round, sum, add, mul, div, le}
-use lib.Ieee.Fits.{up-pos, down-pos, and-l, round-is}
+use lib.Ieee.Fits.{up-pos, down-pos, round-is}
 use lib.Ieee.Exact.{HasValue, units-val, round-exact}
 use lib.Ieee.Order.{drop, kept, round-mono, le-of-values}
 use lib.Ieee.Scale.{grid, overflow, finite, round-val, round-under}
-use lib.Ieee.Positive.{positive, above, above-of-le, le→cross}
+use lib.Ieee.Positive.{above-of-le, le→cross}
 use Rattle.float64.proofs.Order.{lt-or-eq}
 
 -- x is finite, has the sign s, and is at most 1 in size

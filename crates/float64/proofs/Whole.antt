@@ -1,19 +1,21 @@
 -- The whole part as the code finds it: below 2 ^ 53 by a cast, from there up the number itself, and below 0 with the sign turned twice. Assumes nothing.
 use mathlib.Core.Path.{_≡_, refl, sym, ap, _∙_, subst}
-use mathlib.Core.Bool.{Bool, true, false, not, _&&_, true≢false}
-use Prim.Native.Nat.{ℕ, zero, suc, _+_, _-_, _*_, _/_, _^_, _≤_, _<_, min}
-use native.Mathlib.Nat.{le-trans, le-of-eq, lt-of-lt-of-le, lt-of-le-of-lt, not-le-of-lt, min-eq-left, div-lt-iff-lt-mul, mul-le-mul-left, mul-one, mul-pos, zero-lt-suc, div-one, zero-mul, zero-div}
+use mathlib.Core.Bool.{Bool, true, false, true≢false}
+use Prim.Native.Nat.{ℕ, zero, suc, _+_, _-_, _*_, _/_, _^_, _≤_, _<_}
+use native.Mathlib.Nat.{le-trans, min-eq-left, div-lt-iff-lt-mul, mul-le-mul-left, mul-one, mul-pos, zero-lt-suc, div-one, zero-mul, zero-div}
 use native.Mathlib.Omega.{arith}
 use borrow.Author.Tests.{ltb-true, ltb-false}
 use lib.IntN.{ℤ, pos, negsuc}
-use lib.Dec.{T, lit≤, lit<, ltb, lt→ltb}
-use lib.Pow.{pow-pos}
+use lib.Dec.{T, lit≤, lit<, lt→ltb}
+use lib.Pow.{pow-pos, shr-le}
 use lib.Ieee.{Float, nan, inf, fin, binary64, up, down, round, neg, lt, ofBits, ofInt, toUnsigned, fits}
 use lib.Ieee.Fits.{up-pos, down-pos}
+use lib.Ieee.Back.{round-whole}
+use lib.Ieee.Exact.{HasValue}
 use lib.Ieee.Scale.{round-same}
 use Rattle.float64.specs.Constants.{nought}
 use Rattle.float64.specs.Wave.{wholePart}
-use Rattle.float64.proofs.SameValue.{fit, round-own, round-neg}
+use Rattle.float64.proofs.SameValue.{fit, exact-fit, round-own, round-neg}
 
 -- 2 ^ 53
 abbrev pub allWhole : Float
@@ -91,3 +93,11 @@ zero-whole (fin false (suc m) e) F p q = absurd (none (mul-pos (zero-lt-suc m) (
   where
     none : 0 < suc m * up e → suc m * up e * 1 ≤ 0 * down e → ⊥
     none a k = omega arith
+
+-- ---- nothing is rounded
+pub whole-exact : (s : Bool) (m : ℕ) (e : ℤ) → T (fits binary64 (fin s m e)) → HasValue (round binary64 s (m * up e / down e) 1) s (m * up e / down e) 1
+whole-exact s m (pos k) F = subst (λ (n : ℕ). HasValue (round binary64 s n 1) s n 1) (sym (div-one (m * 2 ^ k))) (exact-fit binary64 s m (pos k) (fit binary64 s m (pos k) F))
+whole-exact s m (negsuc k) F = round-whole binary64 s (m * 1 / 2 ^ suc k) (cut (fit binary64 s m (negsuc k) F .short) (shr-le (m * 1) (suc k)))
+  where
+    cut : {n : ℕ} → m < 2 ^ 53 → n ≤ m * 1 → n ≤ 2 ^ 53
+    cut h g = omega arith

@@ -1,16 +1,17 @@
 -- What document 01 says of its float functions in words, and what a reader expects beside their definitions. The proofs are in proofs/Claims.antt.
 use mathlib.Core.Path.{_≡_}
 use mathlib.Core.Logic.{_⊎_}
-use Prim.Native.Nat.{ℕ}
+use Prim.Native.Nat.{ℕ, _*_, _/_}
 use lib.Dec.{T}
-use lib.IntN.{negsuc}
-use lib.Ieee.{Float, nan, fin, binary64, fits, le, mul}
+use lib.IntN.{ℤ, negsuc}
+use lib.Ieee.{Float, nan, fin, binary64, up, down, fits, le, mul}
+use lib.Ieee.Exact.{HasValue}
 use lib.Ieee.Scale.{finite}
-use mathlib.Core.Bool.{false}
+use mathlib.Core.Bool.{Bool, false}
 use Rattle.float64.specs.Constants.{nought, one, minusOne, two, sqrt2}
 use Rattle.float64.specs.Root.{IsRoot, rootOf}
 use Rattle.float64.specs.Exponential.{E}
-use Rattle.float64.specs.Wave.{S, C}
+use Rattle.float64.specs.Wave.{wholePart, S, C}
 use Rattle.float64.specs.Pattern.{bitsOf, doubleOf}
 
 -- 2 ^ -511: from here up a square does not underflow
@@ -36,6 +37,8 @@ abbrev pub InUnit : Float → Type 0
 InUnit x = (x ≡ nan) ⊎ (T (le minusOne x) × T (le x one))
 
 pub record WaveClaims : Type 0 where
+  -- the whole part is a double, so that nothing is rounded
+  pub whole : (s : Bool) (m : ℕ) (e : ℤ) → T (fits binary64 (fin s m e)) → HasValue (wholePart (fin s m e)) s (m * up e / down e) 1
   pub sine : (t : Float) → InUnit (S t)
   pub cosine : (t : Float) → InUnit (C t)
 

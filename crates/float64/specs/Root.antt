@@ -1,7 +1,7 @@
 -- The square root of document 01: IEEE 754, the nearest double, ties to even, of a number 0 or more, "nearest" meaning exact squares compared as whole numbers.
 -- `IsRoot` says what it is to be the root, and is what to read. `rootOf` computes it, for contracts to compose. That they are one is `RootClaims` of Claims.
 use mathlib.Core.Path.{_≡_}
-use mathlib.Core.Bool.{Bool, true, false, cond}
+use mathlib.Core.Bool.{true, false, cond}
 use Prim.Native.Nat.{ℕ, zero, suc, _+_, _-_, _*_, _/_, _%_, _^_, _≤_, _<_}
 use lib.Dec.{T, leb, ltb}
 use lib.Ieee.{Float, nan, inf, fin, binary64, fits, up, down, size, ofBits, toBits}

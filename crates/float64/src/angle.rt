@@ -1,8 +1,7 @@
 // Degrees to radians.
 ghost use mathlib.Core.Path.{_≡_};
 ghost use Rattle.float64.specs.Angle.{radiansOf};
-
-const PI: f64 = 3.141592653589793;
+use crate::constants::PI;
 
 // f64::to_radians
 pub fn to_radians(degrees: f64) -> f64

@@ -7,25 +7,19 @@ pub fn max(a: f64, b: f64) -> f64
     ensures { λ r. ⌜ r ≡ maxOf a b ⌝ }
 {
     if a != a {
-        b
-    } else if a < b {
-        b
-    } else {
-        a
+        return b;
     }
+    if a < b { b } else { a }
 }
 
 // f64::min
-pub fn min(a: f64, b: f64) -> f64
-    ensures { λ r. ⌜ r ≡ minOf a b ⌝ }
+pub fn min(x: f64, y: f64) -> f64
+    ensures { λ r. ⌜ r ≡ minOf x y ⌝ }
 {
-    if a != a {
-        b
-    } else if b < a {
-        b
-    } else {
-        a
+    if x != x {
+        return y;
     }
+    if y < x { y } else { x }
 }
 
 // f64::abs. The difference clears the sign of a zero too, which a negation would not.
@@ -35,15 +29,12 @@ pub fn abs(x: f64) -> f64
     if x <= 0.0 { 0.0 - x } else { x }
 }
 
-// f64::clamp, for any bounds: it never panics.
+// f64::clamp, which would panic where low is above high or one of them is NaN
 pub fn clamp(x: f64, low: f64, high: f64) -> f64
     ensures { λ r. ⌜ r ≡ clampOf x low high ⌝ }
 {
     if x < low {
-        low
-    } else if high < x {
-        high
-    } else {
-        x
+        return low;
     }
+    if high < x { high } else { x }
 }

@@ -3,6 +3,7 @@
 // among them, and equals its definition in specs/.
 mod angle;
 mod choice;
+mod constants;
 mod exponential;
 mod pattern;
 mod root;
@@ -13,6 +14,8 @@ pub use choice::abs;
 pub use choice::clamp;
 pub use choice::max;
 pub use choice::min;
+pub use constants::PI;
+pub use constants::SQRT_2;
 pub use exponential::exp;
 pub use pattern::from_bits;
 pub use pattern::to_bits;

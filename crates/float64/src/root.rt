@@ -1,7 +1,8 @@
 // The square root, digit by digit in whole numbers.
 ghost use mathlib.Core.Path.{_≡_};
 ghost use Prim.Native.Nat.{_+_, _-_, _*_, _^_, _≤_, _<_};
-ghost use lib.Dec.{T};
+ghost use mathlib.Core.Bool.{cond};
+ghost use lib.Dec.{T, leb};
 ghost use lib.Ieee.Positive.{positive};
 ghost use Rattle.float64.specs.Root.{rootOf};
 ghost use Rattle.float64.specs.RootDigits.{FloorOf, NearestWhole, RootPattern, Shifted};
@@ -64,7 +65,7 @@ fn normalised(f: u64) -> Normal
     }
 }
 
-// The pattern of the root of m * 2^52 * 2^w. Where the root rounds up to 2^53, the carry goes into the exponent's field.
+// The pattern of the root of m * 2^52 * 2^w.
 fn root_pattern(m: u64, w: u64) -> u64
     requires { ⌜ (2 ^ 52 ≤ m) × (m < 2 ^ 53) × (w ≤ 3067) ⌝ }
     ensures { λ r. ⌜ RootPattern m w r ⌝ }
@@ -117,15 +118,16 @@ fn next_digit(s: Floor, two: u64) -> Floor
 {
     let rest = s.rest * 4 + two;
     let t = s.root * 4 + 1;
-    if t <= rest {
-        Floor {
-            root: s.root * 2 + 1,
-            rest: rest - t,
-        }
-    } else {
-        Floor {
-            root: s.root * 2,
-            rest,
-        }
+    Floor {
+        root: s.root * 2 + within(t, rest, 1),
+        rest: rest - within(t, rest, t),
     }
+}
+
+// v where t is at most rest, else 0. The digits of a root follow no pattern, so they are chosen without a branch: a branch on them
+// would be foretold wrong every other time.
+fn within(t: u64, rest: u64, v: u64) -> u64
+    ensures { λ r. ⌜ r ≡ cond (leb t rest) v 0 ⌝ }
+{
+    if t <= rest { v } else { 0 }
 }

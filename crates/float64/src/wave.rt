@@ -6,8 +6,8 @@ ghost use lib.Ieee.{lt};
 ghost use Rattle.float64.specs.Constants.{nought, one};
 ghost use Rattle.float64.specs.Wave.{wholePart, reducedAngle, series, divisor, S, C};
 use crate::choice::clamp;
+use crate::constants::PI;
 
-const PI: f64 = 3.141592653589793;
 // w
 const TURN: f64 = 2.0 * PI;
 

@@ -1,10 +1,10 @@
 -- A loop that folds a list from the front, as a sum does: after i turns it has the fold of the first i elements. Assumes nothing.
-use mathlib.Core.Path.{_≡_, refl, sym, ap, _∙_}
-use mathlib.Core.List.{List, [], _∷_, _++_, foldl, foldl-append}
-use Prim.Native.Nat.{ℕ, _+_, _≤_, _<_}
+use mathlib.Core.Path.{_≡_}
+use mathlib.Core.List.{List, foldl, foldl-append}
+use Prim.Native.Nat.{ℕ, _+_, _<_}
 use native.Mathlib.Numerals.{add-one}
 use lib.ListN.{length, take, getD}
-use lib.Seq.{take-suc, take-all}
+use lib.Seq.{take-suc}
 
 module _ {A S : Type 0} (f : S → A → S) (s : S) (d : A) where
   -- one element more

@@ -27,11 +27,19 @@ fn main() {
 /// The jobs that the words ask for, and the program with its arguments.
 fn chosen(words: &[String]) -> Option<(Vec<Vec<u64>>, &[String])> {
     let (jobs, program): (Vec<Vec<u64>>, _) = if words.first()? == "roots" {
-        ((0..=65535).map(|n| vec![8, 0, f64::from(n).to_bits(), 0]).collect(), &words[1..])
+        (
+            (0..=65535)
+                .map(|n| vec![8, 0, f64::from(n).to_bits(), 0])
+                .collect(),
+            &words[1..],
+        )
     } else {
         let count: u64 = words[0].parse().ok()?;
         let mut random = Random::new(words.get(1)?.parse().ok()?);
-        ((0..count).map(|_| draw::job(8, &mut random)).collect(), &words[2..])
+        (
+            (0..count).map(|_| draw::job(8, &mut random)).collect(),
+            &words[2..],
+        )
     };
     if program.is_empty() {
         None
@@ -52,7 +60,9 @@ fn compare(jobs: &[Vec<u64>], program: &[String]) -> u64 {
             exit(2)
         });
     let input = child.stdin.take().expect("standard input is a pipe");
-    let mut answers = Numbers::new(BufReader::new(child.stdout.take().expect("standard output is a pipe")));
+    let mut answers = Numbers::new(BufReader::new(
+        child.stdout.take().expect("standard output is a pipe"),
+    ));
     let mut compared = 0;
     let mut different = 0;
     thread::scope(|scope| {

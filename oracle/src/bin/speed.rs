@@ -137,7 +137,11 @@ fn main() {
     }
     println!("ns per call      Rust   library     ratio");
     for (timed, [rust, library]) in TIMED.iter().zip(best) {
-        println!("{:<10} {rust:>10.1} {library:>9.1} {:>9.2}", timed.name, library / rust);
+        println!(
+            "{:<10} {rust:>10.1} {library:>9.1} {:>9.2}",
+            timed.name,
+            library / rust
+        );
     }
     let [root, e] = [best[0][1], best[1][1]];
     println!("a root takes {:.2} of the time of two E", root / (2.0 * e));

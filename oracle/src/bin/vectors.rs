@@ -40,7 +40,10 @@ impl Vectors {
 }
 
 fn main() -> io::Result<()> {
-    let mut vectors = Vectors { list: Vec::new(), seen: HashSet::new() };
+    let mut vectors = Vectors {
+        list: Vec::new(),
+        seen: HashSet::new(),
+    };
     for operation in [SQRT, E, S, C] {
         for a in forms() {
             vectors.add_bits(operation, a, 0);
@@ -81,7 +84,10 @@ fn forms() -> Vec<u64> {
         0x7ff8_0000_0000_0001,
         0x7fff_ffff_ffff_ffff,
     ];
-    positive.into_iter().flat_map(|bits| [bits, bits | 1 << 63]).collect()
+    positive
+        .into_iter()
+        .flat_map(|bits| [bits, bits | 1 << 63])
+        .collect()
 }
 
 /// 2 to the power of `exponent`, from -1074 to 1023.
@@ -94,30 +100,33 @@ fn power_of_two(exponent: i64) -> f64 {
 }
 
 fn roots(vectors: &mut Vectors) {
-    let whole = [
-        1, 2, 3, 5, 6, 7, 9, 10, 11, 12, 15, 255, 256, 1000, 4097, 65535, 65536, 1000001, 67108863, 67108864, 94906265,
+    let whole: [u64; 21] = [
+        1, 2, 3, 5, 6, 7, 9, 10, 11, 12, 15, 255, 256, 1000, 4097, 65535, 65536, 1000001, 67108863,
+        67108864, 94906265,
     ];
     for n in whole {
-        vectors.add_around(SQRT, (n * n) as u64 as f64);
+        vectors.add_around(SQRT, (n * n) as f64);
     }
     for n in [1.5, 0.75, 0.625, 0.0009765625, 1.1920928955078125e-7] {
         vectors.add_around(SQRT, n * n);
     }
-    for n in [2.0, 3.0, 0.1, 0.2, 1.5, 1e-9, 1e9, 1e-300, 1e300, 314.0, -1.0, -4.0] {
+    for n in [
+        2.0, 3.0, 0.1, 0.2, 1.5, 1e-9, 1e9, 1e-300, 1e300, 314.0, -1.0, -4.0,
+    ] {
         vectors.add(SQRT, n);
     }
     let exponents = [
-        -1074, -1073, -1072, -1071, -1048, -1047, -1024, -1023, -1022, -1021, -512, -511, -53, -52, -2, -1, 1, 2, 3, 52, 53,
-        511, 512, 1022, 1023,
+        -1074, -1073, -1072, -1071, -1048, -1047, -1024, -1023, -1022, -1021, -512, -511, -53, -52,
+        -2, -1, 1, 2, 3, 52, 53, 511, 512, 1022, 1023,
     ];
     for e in exponents {
         vectors.add(SQRT, power_of_two(e));
     }
-    // Beside an even power of two the root is a power of two or the double next to one.
+    // Beside an even power of two: above it the root rounds to a power of two, below it to the double before one.
     for e in [-1022, -1000, -2, 0, 2, 4, 52, 54, 1000, 1022] {
         vectors.add_around(SQRT, power_of_two(e));
     }
-    // Beside an odd one its fraction is that of SQRT_2.
+    // Beside an odd one its digits are those of SQRT_2.
     for e in [-1021, -1, 1, 3, 53, 1023] {
         vectors.add_around(SQRT, power_of_two(e));
     }
@@ -134,14 +143,42 @@ fn roots(vectors: &mut Vectors) {
 
 fn exponentials(vectors: &mut Vectors) {
     let edges = [
-        -700.0, -1.0, 0.0, 1.0, 700.0, -1024.0, 1024.0, -709.0, 709.0, -512.0, -0.5, -699.0, -701.0, -1e-3, -1e-16,
+        -700.0, -1.0, 0.0, 1.0, 700.0, -1024.0, 1024.0, -709.0, 709.0, -512.0, -0.5, -699.0,
+        -701.0, -1e-3, -1e-16,
     ];
     for t in edges {
         vectors.add_around(E, t);
     }
     let more = [
-        -1e-300, -1e-20, -1e-9, 1e-300, 1e-16, 1e-9, 0.5, -2.0, -10.0, -100.0, -350.0, -600.0, -690.0, -699.5, -699.99, -700.01,
-        -709.782712893384, 709.782712893384, -745.2, 710.0, 750.0, 1e4, -1e4, 1e10, -1e10, 1e100, -1e100, 1e308, -1e308,
+        -1e-300,
+        -1e-20,
+        -1e-9,
+        1e-300,
+        1e-16,
+        1e-9,
+        0.5,
+        -2.0,
+        -10.0,
+        -100.0,
+        -350.0,
+        -600.0,
+        -690.0,
+        -699.5,
+        -699.99,
+        -700.01,
+        -709.782712893384,
+        709.782712893384,
+        -745.2,
+        710.0,
+        750.0,
+        1e4,
+        -1e4,
+        1e10,
+        -1e10,
+        1e100,
+        -1e100,
+        1e308,
+        -1e308,
     ];
     for t in more {
         vectors.add(E, t);
@@ -154,7 +191,9 @@ fn exponentials(vectors: &mut Vectors) {
 }
 
 fn sines(vectors: &mut Vectors) {
-    let multiples = [1, 2, 3, 4, 5, 6, 7, 8, 11, 16, 21, 100, 101, 1000, 1001, 65536, 1000001];
+    let multiples = [
+        1, 2, 3, 4, 5, 6, 7, 8, 11, 16, 21, 100, 101, 1000, 1001, 65536, 1000001,
+    ];
     for k in multiples {
         vectors.add_around(S, k as f64 * PI);
         vectors.add_around(S, k as f64 * (2.0 * PI));
@@ -167,13 +206,68 @@ fn sines(vectors: &mut Vectors) {
     }
     // The quotient is whole from 2^53 on; near it, and above.
     let w = 2.0 * PI;
-    for n in [power_of_two(52), power_of_two(53), power_of_two(53) - 1.0, power_of_two(54), power_of_two(63), power_of_two(64)] {
+    for n in [
+        power_of_two(52),
+        power_of_two(53),
+        power_of_two(53) - 1.0,
+        power_of_two(54),
+        power_of_two(63),
+        power_of_two(64),
+    ] {
         vectors.add_around(S, n * w);
     }
     let more = [
-        1e-300, 1e-20, 1e-9, 0.001, 0.1, 0.5, 1.0, 2.0, 3.0, 4.0, 6.0, 7.0, 10.0, 314.15, 1e3, 1e4, 1e5, 1e6, 1e7, 1e9, 1e10,
-        1e12, 1e15, 9007199254740992.0, 1e16, 1e17, 1e18, 1e19, 1e20, 1e22, 1e50, 1e100, 1e154, 1e155, 1e200, 1e300, 1e308,
-        -1e-9, -0.5, -1.0, -3.0, -4.0, -6.0, -7.0, -10.0, -1e3, -1e6, -1e10, -1e17, -1e100, -1e308,
+        1e-300,
+        1e-20,
+        1e-9,
+        0.001,
+        0.1,
+        0.5,
+        1.0,
+        2.0,
+        3.0,
+        4.0,
+        6.0,
+        7.0,
+        10.0,
+        314.15,
+        1e3,
+        1e4,
+        1e5,
+        1e6,
+        1e7,
+        1e9,
+        1e10,
+        1e12,
+        1e15,
+        9007199254740992.0,
+        1e16,
+        1e17,
+        1e18,
+        1e19,
+        1e20,
+        1e22,
+        1e50,
+        1e100,
+        1e154,
+        1e155,
+        1e200,
+        1e300,
+        1e308,
+        -1e-9,
+        -0.5,
+        -1.0,
+        -3.0,
+        -4.0,
+        -6.0,
+        -7.0,
+        -10.0,
+        -1e3,
+        -1e6,
+        -1e10,
+        -1e17,
+        -1e100,
+        -1e308,
     ];
     for t in more {
         vectors.add(S, t);
@@ -192,12 +286,16 @@ fn cosines(vectors: &mut Vectors) {
     for t in [PI / 2.0, PI, 2.0 * PI, 3.0 * PI / 2.0, PI / 3.0, 1.0] {
         vectors.add_around(C, t);
     }
-    for degrees in [1.0, 15.0, 30.0, 45.0, 60.0, 89.0, 90.0, 91.0, 120.0, 150.0, 179.0, 179.999, 180.0, 180.001, 181.0, 200.0, 270.0, 360.0] {
+    for degrees in [
+        1.0, 15.0, 30.0, 45.0, 60.0, 89.0, 90.0, 91.0, 120.0, 150.0, 179.0, 179.999, 180.0,
+        180.001, 181.0, 200.0, 270.0, 360.0,
+    ] {
         vectors.add_around(C, f64::to_radians(degrees));
     }
     let more = [
-        1e-300, 1e-20, 1e-9, 1e-8, 0.001, 0.1, 0.5, 4.0, 5.0, 6.0, 7.0, 8.0, 10.0, 12.0, 20.0, 100.0, 1e3, 1e10, 1e100, 1e154,
-        1.3e154, 1.4e154, 1e155, 1e308, -1e-9, -0.5, -1.0, -3.0, -PI, -5.0, -100.0, -1e100, -1e308,
+        1e-300, 1e-20, 1e-9, 1e-8, 0.001, 0.1, 0.5, 4.0, 5.0, 6.0, 7.0, 8.0, 10.0, 12.0, 20.0,
+        100.0, 1e3, 1e10, 1e100, 1e154, 1.3e154, 1.4e154, 1e155, 1e308, -1e-9, -0.5, -1.0, -3.0,
+        -PI, -5.0, -100.0, -1e100, -1e308,
     ];
     for t in more {
         vectors.add(C, t);

@@ -1,0 +1,78 @@
+-- Worked examples of the definitions. The answers are those of rustc 1.95 on x86-64 (the square root, max, min, abs, clamp and trunc) and of document 01's steps in another language's doubles (E, S and C).
+-- The definitions are believed, so a wrong clause need break no other proof.
+use mathlib.Core.Path.{_≡_, refl}
+use mathlib.Core.Bool.{true, false}
+use Prim.Native.Nat.{ℕ}
+use lib.Ieee.{Float, nan, inf, binary64, neg, ofBits, toBits, round, add, sub, mul, div, lt, isNan, ofInt, size}
+use Rattle.float64.specs.Constants.{nought, one, minusOne, two}
+use Rattle.float64.specs.Choice.{maxOf, minOf, absOf, clampOf}
+use Rattle.float64.specs.Angle.{radiansOf}
+use Rattle.float64.specs.Root.{floorRoot, nearestRoot, rootOf}
+use Rattle.float64.specs.Exponential.{terms, squared, E}
+use Rattle.float64.specs.Wave.{wholePart, reducedAngle, series, S, C}
+use Rattle.float64.specs.Pattern.{bitsOf, doubleOf}
+
+abbrev double : ℕ → Float
+double n = ofBits binary64 n
+
+abbrev minusNought : Float
+minusNought = neg nought
+
+-- on a tie the first operand; if one is NaN, the other
+max-are : (maxOf nought minusNought ≡ nought) × (maxOf minusNought nought ≡ minusNought) × (maxOf nan one ≡ one) × (maxOf one nan ≡ one) × (maxOf nan nan ≡ nan) × (maxOf one two ≡ two) × (maxOf two one ≡ two)
+unfolding maxOf isNan lt ofBits neg
+max-are = (refl, refl, refl, refl, refl, refl, refl)
+
+min-are : (minOf nought minusNought ≡ nought) × (minOf minusNought nought ≡ minusNought) × (minOf nan one ≡ one) × (minOf one nan ≡ one) × (minOf nan nan ≡ nan) × (minOf one two ≡ one) × (minOf two one ≡ one)
+unfolding minOf isNan lt ofBits neg
+min-are = (refl, refl, refl, refl, refl, refl, refl)
+
+abs-are : (absOf minusNought ≡ nought) × (absOf minusOne ≡ one) × (absOf two ≡ two) × (absOf (inf true) ≡ inf false) × (absOf nan ≡ nan)
+unfolding absOf ofBits neg
+abs-are = (refl, refl, refl, refl, refl)
+
+clamp-are : (clampOf nan minusOne one ≡ nan) × (clampOf two minusOne one ≡ one) × (clampOf (inf true) minusOne one ≡ minusOne) × (clampOf minusNought nought one ≡ minusNought) × (clampOf one minusOne one ≡ one)
+unfolding clampOf isNan lt ofBits neg
+clamp-are = (refl, refl, refl, refl, refl)
+
+-- 180, 90 and 15 degrees
+radians-are : (radiansOf (double 0x4066800000000000) ≡ double 0x400921fb54442d18) × (radiansOf (double 0x4056800000000000) ≡ double 0x3ff921fb54442d18) × (radiansOf (double 0x402e000000000000) ≡ double 0x3fd0c152382d7365)
+unfolding ofBits mul div
+radians-are = (refl, refl, refl)
+
+-- 2, 3, 1/4, the smallest and the largest double, 1 - 2 ^ -53 and a subnormal
+root-are : (rootOf (double 0x4000000000000000) ≡ double 0x3ff6a09e667f3bcd) × (rootOf (double 0x4008000000000000) ≡ double 0x3ffbb67ae8584caa) × (rootOf (double 0x3fd0000000000000) ≡ double 0x3fe0000000000000) × (rootOf (double 0x0000000000000001) ≡ double 0x1e60000000000000) × (rootOf (double 0x7fefffffffffffff) ≡ double 0x5fefffffffffffff) × (rootOf (double 0x3fefffffffffffff) ≡ double 0x3fefffffffffffff) × (rootOf (double 0x00001b9cd1295941) ≡ double 0x1fc504e1663053e5)
+unfolding rootOf floorRoot nearestRoot ofBits size
+root-are = (refl, refl, refl, refl, refl, refl, refl)
+
+root-of-others : (rootOf nan ≡ nan) × (rootOf minusNought ≡ minusNought) × (rootOf minusOne ≡ nan) × (rootOf (inf true) ≡ nan) × (rootOf (inf false) ≡ inf false)
+unfolding rootOf ofBits neg
+root-of-others = (refl, refl, refl, refl, refl)
+
+-- 0, -1, -1/2, -700, the next double below -700, and 1
+exponential-are : (E (double 0x0000000000000000) ≡ double 0x3ff0000000000000) × (E (neg (double 0x3ff0000000000000)) ≡ double 0x3fd78b56362cf004) × (E (neg (double 0x3fe0000000000000)) ≡ double 0x3fe368b2fc6f9789) × (E (neg (double 0x4085e00000000000)) ≡ double 0x00d14f2b0fb92e43) × (E (neg (double 0x4085e00000000001)) ≡ double 0x0000000000000000) × (E (double 0x3ff0000000000000) ≡ double 0x4005bf0a8b145459)
+unfolding E terms squared ofBits neg lt ofInt add mul div
+exponential-are = (refl, refl, refl, refl, refl, refl)
+
+-- 2.5, -2.5, -0.5, -0, 2 ^ 53 + 2, infinity
+whole-part-are : (wholePart (double 0x4004000000000000) ≡ double 0x4000000000000000) × (wholePart (neg (double 0x4004000000000000)) ≡ (neg (double 0x4000000000000000))) × (wholePart (neg (double 0x3fe0000000000000)) ≡ (neg (double 0x0000000000000000))) × (wholePart (neg (double 0x0000000000000000)) ≡ (neg (double 0x0000000000000000))) × (wholePart (double 0x4340000000000001) ≡ double 0x4340000000000001) × (wholePart (inf true) ≡ inf true)
+unfolding wholePart ofBits neg round
+whole-part-are = (refl, refl, refl, refl, refl, refl)
+
+-- 0, 1, PI, the next double above PI, 7 and 100
+sine-are : (S (double 0x0000000000000000) ≡ double 0x0000000000000000) × (S (double 0x3ff0000000000000) ≡ double 0x3feaed548f090cee) × (S (double 0x400921fb54442d18) ≡ double 0x0000000000000000) × (S (double 0x400921fb54442d19) ≡ (neg (double 0x3cb921fb54442d17))) × (S (double 0x401c000000000000) ≡ double 0x3fe50608c26d0a0a) × (S (double 0x4059000000000000) ≡ (neg (double 0x3fe03425b78c4d63)))
+unfolding S reducedAngle wholePart series clampOf isNan ofBits neg lt ofInt round sub mul div
+sine-are = (refl, refl, refl, refl, refl, refl)
+
+-- 0, 1, PI and 2
+cosine-are : (C (double 0x0000000000000000) ≡ double 0x3ff0000000000000) × (C (double 0x3ff0000000000000) ≡ double 0x3fe14a280fb5068c) × (C (double 0x400921fb54442d18) ≡ (neg (double 0x3ff0000000000000))) × (C (double 0x4000000000000000) ≡ (neg (double 0x3fdaa22657537208)))
+unfolding C series clampOf isNan ofBits neg lt ofInt sub mul div
+cosine-are = (refl, refl, refl, refl)
+
+pattern-are : (bitsOf nan ≡ 9221120237041090560) × (bitsOf (inf true) ≡ 18442240474082181120) × (bitsOf minusNought ≡ 9223372036854775808) × (bitsOf one ≡ 4607182418800017408)
+unfolding bitsOf isNan ofBits toBits neg size
+pattern-are = (refl, refl, refl, refl)
+
+double-are : (doubleOf 0x7ff0000000000001 ≡ nan) × (doubleOf 0xffff000000000000 ≡ nan) × (doubleOf 0x7ff0000000000000 ≡ inf false) × (doubleOf 0x3ff0000000000000 ≡ one)
+unfolding ofBits
+double-are = (refl, refl, refl, refl)

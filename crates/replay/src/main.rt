@@ -1,0 +1,47 @@
+// Runs the studies on numbers, so that the Rust can be given the same ones and the answers compared line by line. Jobs are
+// read from standard input until it ends; their answers go to standard output.
+mod floats;
+mod numbers;
+
+use numbers::Cursor;
+use numbers::ROOM;
+use numbers::Taken;
+
+// What follows a job: another, or nothing that can be read.
+pub enum After {
+    Job(Cursor),
+    Nothing(Cursor),
+}
+
+// Answers the next job, by its number.
+fn answer(lines: &mut [u8; ROOM], answers: &mut [u8; ROOM], c: Cursor) -> After {
+    let Taken::Number(job, c) = numbers::next(lines, c) else {
+        return After::Nothing(c);
+    };
+    match job {
+        8 => floats::answer(lines, answers, c),
+        _ => After::Nothing(c),
+    }
+}
+
+fn main() {
+    let mut lines = [0u8; ROOM];
+    let mut answers = [0u8; ROOM];
+    let mut c = numbers::start();
+    // A loop has to end, and no input has more jobs than this.
+    let mut jobs = u64::MAX;
+    while jobs > 0 {
+        jobs -= 1;
+        let after = answer(&mut lines, &mut answers, c);
+        match after {
+            After::Job(next) => {
+                c = next;
+            }
+            After::Nothing(last) => {
+                c = last;
+                break;
+            }
+        }
+    }
+    numbers::write_rest(&answers, c);
+}

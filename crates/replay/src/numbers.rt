@@ -1,0 +1,153 @@
+// Numbers in and out, one to a line: right-justified in 21 columns after spaces, then a line feed.
+ghost use Prim.Native.Nat.{_≤_};
+use libc::STDIN_FILENO;
+use libc::STDOUT_FILENO;
+
+const COLUMNS: usize = 21;
+// With the line feed.
+const LINE: usize = COLUMNS + 1;
+// A whole number of lines, so that none is cut in two.
+pub const ROOM: usize = 1024 * LINE;
+// Where the last of them starts.
+const LAST: usize = ROOM - LINE;
+
+// Where the next number stands among the lines read, and where the next answer goes.
+pub struct Cursor {
+    at: usize,
+    filled: usize,
+}
+
+// A number and the cursor past it, or the end of what can be read.
+pub enum Taken {
+    Number(u64, Cursor),
+    Ended,
+}
+
+// Nothing is read yet, and nothing answered.
+pub fn start() -> Cursor {
+    Cursor {
+        at: ROOM,
+        filled: 0,
+    }
+}
+
+// The next number. Once all lines are taken, the next ones are read in their place.
+pub fn next(lines: &mut [u8; ROOM], c: Cursor) -> Taken {
+    let at = c.at;
+    if at <= LAST {
+        return number_at(lines, at, c.filled);
+    }
+    read_lines(lines);
+    number_at(lines, 0, c.filled)
+}
+
+// A zero marks where the input ends: no line has one, so what an earlier read left behind it is not taken again.
+fn read_lines(lines: &mut [u8; ROOM]) {
+    let end = io::read_full(STDIN_FILENO, lines);
+    if end < ROOM {
+        lines[end] = 0;
+    }
+}
+
+// The number in the line that starts at `at`.
+fn number_at(lines: &[u8; ROOM], at: usize, filled: usize) -> Taken
+    requires { do ⌜ at ≤ (← ⟦LAST⟧) ⌝ }
+{
+    let mut n: u64 = 0;
+    let mut i = first_digit(lines, at);
+    while i < COLUMNS {
+        let b = wide(lines[at + i]);
+        if b < 48 {
+            return Taken::Ended;
+        }
+        if b > 57 {
+            return Taken::Ended;
+        }
+        let d = b - 48;
+        if n > (u64::MAX - d) / 10 {
+            return Taken::Ended;
+        }
+        n = n * 10 + d;
+        i += 1;
+    }
+    if lines[at + COLUMNS] != 10 {
+        return Taken::Ended;
+    }
+    Taken::Number(
+        n,
+        Cursor {
+            at: at + LINE,
+            filled,
+        },
+    )
+}
+
+// The first column that has no space, or the last, since a number has at least one digit.
+fn first_digit(lines: &[u8; ROOM], at: usize) -> usize
+    requires { do ⌜ at ≤ (← ⟦LAST⟧) ⌝ }
+    ensures { λ r. ⌜ r ≤ 20 ⌝ }
+{
+    let mut i = 0;
+    while i < COLUMNS - 1 {
+        if lines[at + i] != 32 {
+            return i;
+        }
+        i += 1;
+    }
+    i
+}
+
+fn wide(b: u8) -> u64 {
+    b as u64
+}
+
+// Puts an answer behind the others. When there is no room left, those are written out first.
+pub fn append(answers: &mut [u8; ROOM], c: Cursor, n: u64) -> Cursor {
+    let filled = c.filled;
+    if filled <= LAST {
+        put(answers, filled, n);
+        return Cursor {
+            at: c.at,
+            filled: filled + LINE,
+        };
+    }
+    io::write_all(STDOUT_FILENO, answers);
+    put(answers, 0, n);
+    Cursor {
+        at: c.at,
+        filled: LINE,
+    }
+}
+
+// Writes out the answers that are left.
+pub fn write_rest(answers: &[u8; ROOM], c: Cursor) {
+    let all: &[u8] = answers;
+    let filled = c.filled;
+    if filled <= all.len() {
+        io::write_all(STDOUT_FILENO, &all[..filled]);
+    }
+}
+
+// The line of n, from its last column to its first.
+fn put(answers: &mut [u8; ROOM], at: usize, n: u64)
+    requires { do ⌜ at ≤ (← ⟦LAST⟧) ⌝ }
+{
+    answers[at + COLUMNS] = 10;
+    answers[at + COLUMNS - 1] = 48 + (n % 10) as u8;
+    let mut i = COLUMNS - 1;
+    let mut rest = n / 10;
+    while i > 0 {
+        i -= 1;
+        answers[at + i] = glyph(rest);
+        rest /= 10;
+    }
+}
+
+// The last digit of `rest`, or a space where no digit is left.
+fn glyph(rest: u64) -> u8 {
+    if rest == 0 {
+        32
+    } else {
+        48 + (rest % 10) as u8
+    }
+}
