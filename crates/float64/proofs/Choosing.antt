@@ -29,7 +29,7 @@ pub min-is : (a b : Float) → minOf a b ≡ cond (ne a a) b (cond (lt b a) b a)
 unfolding minOf
 min-is a b = needless (isNan a) (isNan b) (lt b a) a b (nan-lt b a) ∙ ap (λ (n : Bool). cond n b (cond (lt b a) b a)) (sym (ne-self a))
 
-pub clamp-is : (x low high : Float) → clampOf x low high ≡ cond (lt x low) low (cond (lt high x) high x)
+pub clamp-is : (x low high : Float) → clampOf x low high ≡ (let y = cond (lt x low) low x in cond (lt high y) high y)
 unfolding clampOf isNan
 clamp-is nan low high = rw (nan-lt nan low tt, lt-nan high nan tt)
 clamp-is (inf s) low high = refl

@@ -96,7 +96,7 @@ pub record Made (n q j : ℕ) : Type 0 where
   pub no-nan : T (not (nanBits binary64 n))
   pub value : HasValue (ofBits binary64 n) false (q * 2 ^ j) (2 ^ 1074)
 
-made-fields : (n E t : ℕ) → n < 2 ^ 63 → n / 2 ^ 52 ≡ suc E → n % 2 ^ 52 ≡ t → E < 2046 → HasValue (ofBits binary64 n) false ((2 ^ 52 + t) * 2 ^ E) (2 ^ 1074)
+pub made-fields : (n E t : ℕ) → n < 2 ^ 63 → n / 2 ^ 52 ≡ suc E → n % 2 ^ 52 ≡ t → E < 2046 → HasValue (ofBits binary64 n) false ((2 ^ 52 + t) * 2 ^ E) (2 ^ 1074)
 made-fields n E t l a b h =
     let s : leb (2 ^ 63) n ≡ false = lt-leb (2 ^ 63) n l in
     let m : n % 2 ^ 63 ≡ n = mod-eq-of-lt l in

@@ -10,17 +10,30 @@ use Rattle.float64.specs.Wave.{S, C}
 use Rattle.float64.specs.Claims.{InUnit}
 use Rattle.float64.proofs.Order.{le-refl-float, le-of-not-lt}
 
-clamped : (x low high : Float) → T (not (isNan x)) → T (not (isNan low)) → T (not (isNan high)) → T (le low high) → (a b : Bool) → (a ≡ false → T (le low x)) → (b ≡ false → T (le x high))
-    → T (le low (cond a low (cond b high x))) × T (le (cond a low (cond b high x)) high)
-clamped x low high p q r h true b f g = (le-refl-float low q, h)
-clamped x low high p q r h false true f g = (h, le-refl-float high r)
-clamped x low high p q r h false false f g = (f refl, g refl)
+-- what is raised to low or more, and then cut to high
+raised : (x low : Float) → T (not (isNan x)) → T (not (isNan low)) → T (le low (cond (lt x low) low x)) × T (not (isNan (cond (lt x low) low x)))
+raised x low p q = by (lt x low) (le-of-not-lt x low p q)
+  where
+    by : (b : Bool) → (b ≡ false → T (le low x)) → T (le low (cond b low x)) × T (not (isNan (cond b low x)))
+    by true f = (le-refl-float low q, q)
+    by false f = (f refl, p)
+
+cut : (y low high : Float) → T (le low y) → T (le low high) → T (not (isNan y)) → T (not (isNan high)) → T (le low (cond (lt high y) high y)) × T (le (cond (lt high y) high y) high)
+cut y low high h k p q = by (lt high y) (le-of-not-lt high y q p)
+  where
+    by : (b : Bool) → (b ≡ false → T (le y high)) → T (le low (cond b high y)) × T (le (cond b high y) high)
+    by true f = (k, le-refl-float high q)
+    by false f = (h, f refl)
+
+within : (x low high : Float) → T (not (isNan x)) → T (not (isNan low)) → T (not (isNan high)) → T (le low high)
+    → (let y = cond (lt x low) low x in T (le low (cond (lt high y) high y)) × T (le (cond (lt high y) high y) high))
+within x low high p q r h = let y = raised x low p q in cut (cond (lt x low) low x) low high (y .0) h (y .1) r
 
 pub clamp-within : (x low high : Float) → T (not (isNan low)) → T (not (isNan high)) → T (le low high) → (clampOf x low high ≡ nan) ⊎ (T (le low (clampOf x low high)) × T (le (clampOf x low high) high))
 unfolding clampOf isNan
 clamp-within nan low high q r h = inl refl
-clamp-within (inf s) low high q r h = inr (clamped (inf s) low high tt q r h (lt (inf s) low) (lt high (inf s)) (le-of-not-lt (inf s) low tt q) (le-of-not-lt high (inf s) r tt))
-clamp-within (fin s m e) low high q r h = inr (clamped (fin s m e) low high tt q r h (lt (fin s m e) low) (lt high (fin s m e)) (le-of-not-lt (fin s m e) low tt q) (le-of-not-lt high (fin s m e) r tt))
+clamp-within (inf s) low high q r h = inr (within (inf s) low high tt q r h)
+clamp-within (fin s m e) low high q r h = inr (within (fin s m e) low high tt q r h)
 
 unit-within : (x : Float) → InUnit (clampOf x minusOne one)
 unfolding ofBits neg isNan le

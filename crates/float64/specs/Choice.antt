@@ -16,6 +16,9 @@ absOf nan = nan
 absOf (inf s) = inf false
 absOf (fin s m e) = fin false m e
 
--- `clamp` leaves a NaN
+-- `clamp` leaves a NaN. What is below low is raised to it, and what is then above high is cut to that.
 unfoldable pub clampOf : Float → Float → Float → Float
-clampOf x low high = cond (isNan x) nan (cond (lt x low) low (cond (lt high x) high x))
+clampOf x low high =
+    cond (isNan x) nan
+    (let y = cond (lt x low) low x in
+    cond (lt high y) high y)

@@ -1,5 +1,7 @@
 // `max`, `min`, `abs` and `clamp`.
 ghost use mathlib.Core.Path.{_≡_};
+ghost use mathlib.Core.Bool.{cond};
+ghost use lib.Ieee.{lt};
 ghost use Rattle.float64.specs.Choice.{maxOf, minOf, absOf, clampOf};
 
 // f64::max
@@ -33,8 +35,17 @@ pub fn abs(x: f64) -> f64
 pub fn clamp(x: f64, low: f64, high: f64) -> f64
     ensures { λ r. ⌜ r ≡ clampOf x low high ⌝ }
 {
-    if x < low {
-        return low;
-    }
+    at_most(at_least(x, low), high)
+}
+
+fn at_least(x: f64, low: f64) -> f64
+    ensures { λ r. ⌜ r ≡ cond (lt x low) low x ⌝ }
+{
+    if x < low { low } else { x }
+}
+
+fn at_most(x: f64, high: f64) -> f64
+    ensures { λ r. ⌜ r ≡ cond (lt high x) high x ⌝ }
+{
     if high < x { high } else { x }
 }

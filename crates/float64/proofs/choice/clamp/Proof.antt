@@ -1,16 +1,17 @@
 -- `clamp` meets its contract. Assumes nothing.
+use mathlib.Core.Path.{_∙_}
 use Rattle.float64.proofs.Choosing.{clamp-is}
 use Rattle.float64.proofs.choice.clamp.Statement.{statement}
 use Rattle.float64.proofs.choice.clamp.Tie as tie
 
+at-least-requires : tie.Need-at-least-requires
+at-least-requires c κs = tt
+
+at-most-requires : tie.Need-at-most-requires
+at-most-requires c κs = tt
+
 returns : tie.Need-returns
-returns c = simp (clamp-is, c .if1 .taken)
-
-returns-2 : tie.Need-returns-2
-returns-2 c = simp (clamp-is, c .before .if1 .left, c .if2 .taken)
-
-returns-3 : tie.Need-returns-3
-returns-3 c = simp (clamp-is, c .before .if1 .left, c .if2 .left)
+returns c = c .at-most .ensures ∙ rw (clamp-is, c .before .at-least .ensures)
 
 pub clamp-spec : {M : Type 1} → statement M
-clamp-spec = tie.close (tie.spec returns returns-2 returns-3)
+clamp-spec = tie.close (tie.spec at-least-requires at-most-requires returns)
