@@ -1,14 +1,16 @@
 -- The claims of specs/Claims.antt, proved. Assumes nothing.
-use mathlib.Core.Path.{_≡_, refl, sym, ap, _∙_, subst}
+use mathlib.Core.Path.{_≡_, refl, ap, _∙_, subst}
 use mathlib.Core.Logic.{_⊎_, inl, inr}
 use mathlib.Core.Bool.{Bool, true, false, not}
-use Prim.Native.Nat.{ℕ, _*_, _/_}
-use lib.IntN.{ℤ}
-use lib.Dec.{T}
-use lib.Ieee.{Float, nan, inf, fin, binary64, up, down, fits, isNan, le, mul, ofBits, toBits, size}
-use lib.Ieee.Bits.{ofBits-toBits}
+use Prim.Native.Nat.{ℕ, zero, suc, _*_, _/_, _^_, _<_}
+use native.Mathlib.Nat.{mul-pos, zero-lt-suc}
+use native.Mathlib.Omega.{arith}
+use lib.IntN.{ℤ, pos}
+use lib.Dec.{T, eqb, eqb→eq, lit<}
+use lib.Ieee.{Float, nan, inf, fin, binary64, up, down, fits, isNan, eq, le, mul, ofBits, toBits, size}
+use lib.Ieee.Bits.{ofBits-toBits, toBits-ofBits}
 use lib.Ieee.Exact.{HasValue}
-use lib.Ieee.Fits.{mul-fits}
+use lib.Ieee.Fits.{up-pos, and-l, mul-fits}
 use lib.Ieee.Positive.{positive, above-of-le, mul-mono}
 use lib.Ieee.Scale.{finite}
 use Rattle.float64.specs.Constants.{nought, two, sqrt2}
@@ -20,6 +22,7 @@ use Rattle.float64.proofs.Order.{le-refl-float}
 use Rattle.float64.proofs.RootNearest.{root-is, root-only}
 use Rattle.float64.proofs.RootOfSquare.{root-le, above-finite}
 use Rattle.float64.proofs.ExpBound.{E-between}
+use Rattle.float64.proofs.SameValue.{same-value}
 use Rattle.float64.proofs.Whole.{whole-exact}
 use Rattle.float64.proofs.WaveBound.{sine-within, cosine-within}
 
@@ -28,9 +31,26 @@ unfolding rootOf floorRoot nearestRoot ofBits size
 two-root = refl
 
 -- ---- the root of a square
-zero-square : T (le (rootOf (mul binary64 nought nought)) nought)
-unfolding rootOf ofBits mul le
-zero-square = tt
+zero-square : (s : Bool) → T (le (rootOf (mul binary64 (fin s 0 (pos 0)) (fin s 0 (pos 0)))) (fin s 0 (pos 0)))
+unfolding rootOf mul le
+zero-square true = tt
+zero-square false = tt
+
+-- a zero is written in one way
+zero-is : (s : Bool) (e : ℤ) → T (fits binary64 (fin s 0 e)) → fin s 0 (pos 0) ≡ fin s 0 e
+unfolding fits
+zero-is s e F = same-value binary64 (fin s 0 (pos 0)) (fin s 0 e) s 0 1 (lit< tt) tt F (refl, omega arith) (refl, omega arith)
+
+of-zero-square : (x : Float) → T (fits binary64 x) → T (eq x nought) → T (le (rootOf (mul binary64 x x)) x)
+unfolding eq ofBits
+of-zero-square nan F h = absurd h
+of-zero-square (inf true) F h = absurd h
+of-zero-square (inf false) F h = absurd h
+of-zero-square (fin s zero e) F h = subst (λ (z : Float). T (le (rootOf (mul binary64 z z)) z)) (zero-is s e F) (zero-square s)
+of-zero-square (fin s (suc m) e) F h = absurd (absent (mul-pos (zero-lt-suc m) (up-pos e)) (eqb→eq (suc m * up e * 1) (0 * down e) (and-l (eqb (suc m * up e * 1) (0 * down e)) _ h)))
+  where
+    absent : 0 < suc m * up e → suc m * up e * 1 ≡ 0 * down e → ⊥
+    absent p k = omega arith
 
 least-square : T (positive (mul binary64 leastSquarable leastSquarable))
 unfolding mul
@@ -49,8 +69,8 @@ no-nan nan F = F
 no-nan (inf s) F = tt
 no-nan (fin s m e) F = tt
 
-of-square : (x : Float) → T (fits binary64 x) → (x ≡ nought) ⊎ T (le leastSquarable x) → T (finite (mul binary64 x x)) → T (le (rootOf (mul binary64 x x)) x)
-of-square x f (inl e) F = subst (λ (z : Float). T (le (rootOf (mul binary64 z z)) z)) (sym e) zero-square
+of-square : (x : Float) → T (fits binary64 x) → T (eq x nought) ⊎ T (le leastSquarable x) → T (finite (mul binary64 x x)) → T (le (rootOf (mul binary64 x x)) x)
+of-square x f (inl e) F = of-zero-square x f e
 of-square x f (inr h) F =
     let p = number x h F in
     let s = mul binary64 x x in
@@ -78,4 +98,7 @@ bits-are (inf s) = refl
 bits-are (fin s m e) = refl
 
 pub pattern-claims : PatternClaims
-pattern-claims = record { back = λ (x : Float) (F : T (fits binary64 x)). ap doubleOf (bits-are x) ∙ ofBits-toBits binary64 x F }
+pattern-claims = record {
+  back = λ (x : Float) (F : T (fits binary64 x)). ap doubleOf (bits-are x) ∙ ofBits-toBits binary64 x F;
+  forth = λ (bits : ℕ) (h : bits < 2 ^ 64) (p : T (not (isNan (doubleOf bits)))). bits-are (doubleOf bits) ∙ toBits-ofBits binary64 bits h p;
+}

@@ -1,13 +1,13 @@
 -- What document 01 says of its float functions in words, and what a reader expects beside their definitions. The proofs are in proofs/Claims.antt.
 use mathlib.Core.Path.{_≡_}
 use mathlib.Core.Logic.{_⊎_}
-use Prim.Native.Nat.{ℕ, _*_, _/_}
+use Prim.Native.Nat.{ℕ, _*_, _/_, _^_, _<_}
 use lib.Dec.{T}
 use lib.IntN.{ℤ, negsuc}
-use lib.Ieee.{Float, nan, fin, binary64, up, down, fits, le, mul}
+use lib.Ieee.{Float, nan, fin, binary64, up, down, fits, isNan, eq, le, mul}
 use lib.Ieee.Exact.{HasValue}
 use lib.Ieee.Scale.{finite}
-use mathlib.Core.Bool.{Bool, false}
+use mathlib.Core.Bool.{Bool, false, not}
 use Rattle.float64.specs.Constants.{nought, one, minusOne, two, sqrt2}
 use Rattle.float64.specs.Root.{IsRoot, rootOf}
 use Rattle.float64.specs.Exponential.{E}
@@ -23,8 +23,8 @@ pub record RootClaims : Type 0 where
   pub nearest : (x : Float) → T (fits binary64 x) → IsRoot x (rootOf x)
   -- and no other double is: "the nearest" leaves no choice
   pub only : (x y : Float) → T (fits binary64 x) → IsRoot x y → y ≡ rootOf x
-  -- the root of a rounded square is at most the number, where the square neither overflows nor underflows
-  pub of-square : (x : Float) → T (fits binary64 x) → (x ≡ nought) ⊎ T (le leastSquarable x) → T (finite (mul binary64 x x)) → T (le (rootOf (mul binary64 x x)) x)
+  -- the root of a rounded square is at most the number, from 0 up, where the square neither overflows nor underflows
+  pub of-square : (x : Float) → T (fits binary64 x) → T (eq x nought) ⊎ T (le leastSquarable x) → T (finite (mul binary64 x x)) → T (le (rootOf (mul binary64 x x)) x)
   -- SQRT_2 is the nearest double
   pub of-two : rootOf two ≡ sqrt2
 
@@ -43,5 +43,6 @@ pub record WaveClaims : Type 0 where
   pub cosine : (t : Float) → InUnit (C t)
 
 pub record PatternClaims : Type 0 where
-  -- a double is back from its bits
+  -- a double is back from its bits, and a pattern that is no NaN's from its double
   pub back : (x : Float) → T (fits binary64 x) → doubleOf (bitsOf x) ≡ x
+  pub forth : (bits : ℕ) → bits < 2 ^ 64 → T (not (isNan (doubleOf bits))) → bitsOf (doubleOf bits) ≡ bits

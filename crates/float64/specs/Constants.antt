@@ -43,7 +43,7 @@ pub pi-is : pi ≡ decimal 314159265358979323846264338327950288 (10 ^ 35)
 unfolding ofBits round
 pi-is = refl
 
--- SQRT_2. That it is the nearest double to the root of 2 is `sqrt2` of Claims.
+-- SQRT_2. That it is the nearest double to the root of 2 is `of-two` of Claims.
 abbrev pub sqrt2 : Float
 sqrt2 = ofBits binary64 0x3ff6_a09e_667f_3bcd
 

@@ -21,7 +21,7 @@ radicand a = a * 2 ^ 1074
 abbrev pub AsNear : (n b c : ℕ) → Type 0
 AsNear n b c = (b < c → 4 * n ≤ (b + c) * (b + c)) × (c < b → (b + c) * (b + c) ≤ 4 * n)
 
--- y is the double nearest to the root of x: no double z is nearer. Where another is as near, √n is the middle, and y is the even one: its last digit is 0.
+-- y is the double nearest to the root of x: no double z from 0 up is nearer. Where another is as near, √n is the middle, and y is the even one: its last digit is 0.
 pub record NearestRoot (x y : Float) : Type 0 where
   pub a : ℕ
   pub b : ℕ
