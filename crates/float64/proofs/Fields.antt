@@ -3,11 +3,11 @@ use mathlib.Core.Path.{_≡_, refl, sym, ap, _∙_, subst}
 use mathlib.Core.Logic.{inl, inr}
 use mathlib.Core.Bool.{Bool, true, false, not, cond}
 use Prim.Native.Nat.{ℕ, zero, suc, _+_, _-_, _*_, _/_, _%_, _^_, _≤_, _<_}
-use native.Mathlib.Nat.{pow-suc, mod-eq-of-lt, eq-or-lt-of-le, mul-one}
+use native.Mathlib.Nat.{pow-suc, mod-eq-of-lt, eq-or-lt-of-le, mul-one, lt-of-lt-of-le, mul-lt-mul-of-pos-right, le-trans, le-of-eq}
 use native.Mathlib.Omega.{arith}
 use borrow.Author.Tests.{leb-false, eqb-false, ne-eqb, le-ltb, lt-leb}
 use lib.Dec.{T, leb, ltb, eqb}
-use lib.Pow.{pow-pos}
+use lib.Pow.{pow-pos, pow-add, pow-mono}
 use lib.Ieee.{Float, nan, inf, fin, binary64, fits, isNan, odd, ofFields, ofBits, toBits, nanBits}
 use lib.Ieee.Exact.{HasValue, odd-sign}
 use lib.Ieee.Positive.{positive, value-pos}
@@ -29,6 +29,16 @@ pos-sign (fin false m e) s a c p v = sym (v .0)
 abbrev pub unitsAt : ℕ → ℕ → ℕ
 unitsAt zero t = t
 unitsAt (suc E) t = (2 ^ 52 + t) * 2 ^ E
+
+-- 2 ^ 52 + t has 53 digits
+pub units-below : (E t k : ℕ) → t < 2 ^ 52 → E + 52 ≤ k → unitsAt E t < 2 ^ k
+units-below zero t k h g = lt-of-lt-of-le h (pow-mono g)
+units-below (suc E) t k h g =
+    let s : 2 ^ 52 + t < 2 ^ 53 = omega arith in
+    lt-of-lt-of-le (mul-lt-mul-of-pos-right s (pow-pos E)) (le-trans (le-of-eq (sym (pow-add 2 53 E))) (pow-mono (room g)))
+  where
+    room : suc E + 52 ≤ k → 53 + E ≤ k
+    room g = omega arith
 
 -- what a pattern's fields say of a positive value
 record Fields (s : Bool) (E t : ℕ) : Type 0 where

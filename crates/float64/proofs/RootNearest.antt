@@ -1,9 +1,9 @@
 -- `rootOf` of a double above zero is the nearest double, and no other is. Assumes nothing.
 use mathlib.Core.Path.{_≡_, refl, sym, ap, _∙_, subst}
-use mathlib.Core.Logic.{_⊎_, inl, inr}
+use mathlib.Core.Logic.{inl, inr}
 use mathlib.Core.Bool.{Bool, true, false}
 use Prim.Native.Nat.{ℕ, zero, suc, _+_, _-_, _*_, _/_, _%_, _^_, _≤_, _<_}
-use native.Mathlib.Nat.{le-trans, le-of-eq, le-of-lt, lt-of-lt-of-le, lt-of-le-of-lt, lt-of-not-le, not-le-of-lt, le-of-suc-le-suc, eq-or-lt-of-le, eq-of-mul-eq-mul-right, mul-le-mul, mul-le-mul-right, mul-lt-mul-of-pos-right, mul-lt-mul-of-pos-left, mul-assoc, mul-pos, two-mul, zero-lt-suc, add-comm}
+use native.Mathlib.Nat.{le-trans, le-of-eq, le-of-lt, lt-of-lt-of-le, lt-of-le-of-lt, lt-of-not-le, not-le-of-lt, le-of-suc-le-suc, eq-or-lt-of-le, eq-of-mul-eq-mul-right, mul-le-mul, mul-le-mul-right, mul-lt-mul-of-pos-right, mul-lt-mul-of-pos-left, mul-assoc, mul-pos, zero-lt-suc, add-comm}
 use native.Mathlib.Omega.{arith}
 use borrow.Author.Tests.{ltb-true, ltb-false}
 use lib.Dec.{T, ltb, lt→ltb}
@@ -16,6 +16,8 @@ use lib.Ieee.Positive.{positive, positive-of-value}
 use Rattle.float64.specs.Root.{Units, radicand, AsNear, NearestRoot, IsRoot, rootOf}
 use Rattle.float64.specs.RootDigits.{Placed}
 use Rattle.float64.proofs.Fields.{read, unitsAt}
+use Rattle.lists.proofs.Counting.{compared}
+use Rattle.float64.proofs.RootNumbers.{square-le, pow-double}
 use Rattle.float64.proofs.RootPlace.{rooted}
 use Rattle.float64.proofs.SameValue.{same-value}
 
@@ -49,14 +51,9 @@ multiple-of z c j f v h =
     subst (λ (n : ℕ). (u : ℕ) × (n ≡ u * 2 ^ j)) e (multiple-at (b / 2 ^ 52) (b % 2 ^ 52) j (omega arith) (le-trans h (le-of-eq (sym e))))
 
 -- ---- no other multiple is as near
-square-le : (a b : ℕ) → a ≤ b → a * a ≤ b * b
-square-le a b h = mul-le-mul h h
-
 scaled-square : (k j : ℕ) → k * k * 2 ^ (2 * j) ≡ k * 2 ^ j * (k * 2 ^ j)
 scaled-square k j =
-    let P = 2 ^ j in
-    let e : 2 ^ (2 * j) ≡ P * P = ap (λ (z : ℕ). 2 ^ z) (two-mul j) ∙ pow-add 2 j j in
-    ap (λ (z : ℕ). k * k * z) e ∙ moved k P
+    ap (λ (z : ℕ). k * k * z) (pow-double j) ∙ moved k (2 ^ j)
   where
     moved : (k P : ℕ) → k * k * (P * P) ≡ k * P * (k * P)
     moved k P = omega arith
@@ -140,16 +137,6 @@ root-fits (fin s zero e) F = F
 root-fits (fin true (suc m) e) F = tt
 root-fits (fin false (suc m) e) F = ofBits-fits binary64 _
 
-differ : (a b : ℕ) → (a ≡ b → ⊥) → (a < b) ⊎ (b < a)
-differ a b h = by (ltb a b) refl
-  where
-    by : (t : Bool) → ltb a b ≡ t → (a < b) ⊎ (b < a)
-    by true e = inl (ltb-true a b e)
-    by false e = inr (other (ltb-false a b e))
-      where
-        other : b ≤ a → b < a
-        other g = elim (eq-or-lt-of-le g) [ inl e ↦ absurd (h (sym e)) | inr l ↦ l ]
-
 pub nearest-root : (x : Float) → T (fits binary64 x) → T (positive x) → NearestRoot x (rootOf x)
 nearest-root x F p =
     let r = rooted x F p in
@@ -165,9 +152,10 @@ nearest-root x F p =
         (λ (l : b < c). le-of-lt (beyond n (r .q) (r .j) (r .placed) z c G v l)),
         (λ (l : c < b). le-of-lt (short-of n (r .q) (r .j) (r .placed) z c G v l)),
       );
-      even = λ (z : Float) (c : ℕ) (G : T (fits binary64 z)) (v : Units z c) (d : c ≡ b → ⊥) (e : (b + c) * (b + c) ≡ 4 * n). elim (differ c b d) [
+      even = λ (z : Float) (c : ℕ) (G : T (fits binary64 z)) (v : Units z c) (d : c ≡ b → ⊥) (e : (b + c) * (b + c) ≡ 4 * n). elim (compared c b) [
         | inl l ↦ absurd (not-le-of-lt (short-of n (r .q) (r .j) (r .placed) z c G v l) (le-of-eq (sym e)))
-        | inr l ↦ absurd (not-le-of-lt (beyond n (r .q) (r .j) (r .placed) z c G v l) (le-of-eq e))
+        | inr (inl k) ↦ absurd (d k)
+        | inr (inr l) ↦ absurd (not-le-of-lt (beyond n (r .q) (r .j) (r .placed) z c G v l) (le-of-eq e))
       ];
     }
 
@@ -178,24 +166,16 @@ only-root x y F p h =
     let b = r .q * 2 ^ r .j in
     let a : h .a ≡ r .a = units-unique x (h .a) (r .a) (h .x-is) (r .x-is) in
     let near : AsNear (radicand (r .a)) (h .b) b = subst (λ (k : ℕ). AsNear (radicand k) (h .b) b) a (h .nearest (rootOf x) b (root-fits x F) (r .y-is)) in
-    let same : h .b ≡ b = not-differ (h .b) b (
-    λ (l : h .b < b). not-le-of-lt (short-of (radicand (r .a)) (r .q) (r .j) (r .placed) y (h .b) (h .double) (h .y-is) l) (le-trans (near .0 l) (le-of-eq (turned (h .b) b)))) (
-    λ (l : b < h .b). not-le-of-lt (beyond (radicand (r .a)) (r .q) (r .j) (r .placed) y (h .b) (h .double) (h .y-is) l) (le-trans (le-of-eq (turned b (h .b))) (near .1 l))) in
+    let same : h .b ≡ b =
+    elim (compared (h .b) b) [
+      | inl l ↦ absurd (not-le-of-lt (short-of (radicand (r .a)) (r .q) (r .j) (r .placed) y (h .b) (h .double) (h .y-is) l) (le-trans (near .0 l) (le-of-eq (turned (h .b) b))))
+      | inr (inl e) ↦ e
+      | inr (inr l) ↦ absurd (not-le-of-lt (beyond (radicand (r .a)) (r .q) (r .j) (r .placed) y (h .b) (h .double) (h .y-is) l) (le-trans (le-of-eq (turned b (h .b))) (near .1 l)))
+    ] in
     same-value binary64 y (rootOf x) false b (2 ^ 1074) (pow-pos 1074) (h .double) (root-fits x F) (subst (λ (k : ℕ). Units y k) same (h .y-is)) (r .y-is)
   where
     turned : (b c : ℕ) → (b + c) * (b + c) ≡ (c + b) * (c + b)
     turned b c = ap (λ (s : ℕ). s * s) (add-comm b c)
-
-    not-differ : (b c : ℕ) → (b < c → ⊥) → (c < b → ⊥) → b ≡ c
-    not-differ b c f g = by (ltb b c) (ltb c b) refl refl
-      where
-        by : (t u : Bool) → ltb b c ≡ t → ltb c b ≡ u → b ≡ c
-        by true u d e = absurd (f (ltb-true b c d))
-        by false true d e = absurd (g (ltb-true c b e))
-        by false false d e = level (ltb-false b c d) (ltb-false c b e)
-          where
-            level : c ≤ b → b ≤ c → b ≡ c
-            level k l = omega arith
 
 -- ---- at every double
 pub root-is : (x : Float) → T (fits binary64 x) → IsRoot x (rootOf x)

@@ -2,7 +2,7 @@
 use mathlib.Core.Path.{_≡_, refl, sym, ap, _∙_, subst}
 use mathlib.Core.Bool.{Bool, true, false, cond}
 use Prim.Native.Nat.{ℕ, zero, suc, _+_, _-_, _*_, _/_, _%_, _^_, _≤_, _<_}
-use native.Mathlib.Nat.{mul-le-mul-right, mul-lt-mul-of-pos-right, lt-of-lt-of-le, lt-of-le-of-lt, le-trans, le-of-eq, lt-of-not-le, not-le-of-lt, le-of-suc-le-suc, lt-irrefl, mul-le-mul, mul-le-mul-left, mul-one, mul-comm, mul-assoc}
+use native.Mathlib.Nat.{mul-le-mul-right, mul-lt-mul-of-pos-right, lt-of-lt-of-le, lt-of-le-of-lt, le-trans, le-of-eq, lt-of-not-le, not-le-of-lt, lt-irrefl, mul-le-mul, mul-le-mul-left, mul-one, mul-comm, mul-assoc, two-mul}
 use native.Mathlib.Omega.{arith}
 use borrow.Author.Tests.{leb-true, leb-false}
 use lib.Dec.{leb, lit≤}
@@ -37,14 +37,21 @@ pub at-zero' : (n k : ℕ) → k ≤ 0 → n * 2 ^ (2 * k) ≡ n
 at-zero' n zero h = omega arith
 at-zero' n (suc k) h = omega arith
 
--- a floor root of 2 ^ 104 or more is 2 ^ 52 or more
-pub root-ge : (r e : ℕ) → 2 ^ 104 ≤ r * r + e → e ≤ 2 * r → 2 ^ 52 ≤ r
-root-ge r e h k = le-of-suc-le-suc (lt-of-not-le (λ (g : suc r ≤ 2 ^ 52). clash (mul-le-mul g g)))
-  where
-    clash : suc r * suc r ≤ 2 ^ 104 → ⊥
-    clash g = omega arith
+pub square-le : (a b : ℕ) → a ≤ b → a * a ≤ b * b
+square-le a b h = mul-le-mul h h
 
-less-one : (r : ℕ) → 0 < r → (2 * r - 1) * (2 * r - 1) + (4 * r - 1) ≡ 4 * (r * r)
+pub pow-double : (j : ℕ) → 2 ^ (2 * j) ≡ 2 ^ j * 2 ^ j
+pow-double j = ap (λ (z : ℕ). 2 ^ z) (two-mul j) ∙ pow-add 2 j j
+
+-- a whole root of 2 ^ 104 or more is 2 ^ 52 or more
+pub root-ge : (r m : ℕ) → 2 ^ 104 ≤ m → m < (r + 1) * (r + 1) → 2 ^ 52 ≤ r
+root-ge r m a b = lt-suc (lt-of-not-le (λ (g : r + 1 ≤ 2 ^ 52). not-le-of-lt b (le-trans (square-le (r + 1) (2 ^ 52) g) a)))
+  where
+    lt-suc : 2 ^ 52 < r + 1 → 2 ^ 52 ≤ r
+    lt-suc h = omega arith
+
+-- (2 r - 1) ^ 2 is 4 r - 1 less than (2 r) ^ 2
+pub less-one : (r : ℕ) → 0 < r → (2 * r - 1) * (2 * r - 1) + (4 * r - 1) ≡ 4 * (r * r)
 less-one (suc r) h = let e : 2 * suc r - 1 ≡ 2 * r + 1 = omega arith in rw e (omega arith)
 less-one zero h = absurd (lt-irrefl 0 h)
 

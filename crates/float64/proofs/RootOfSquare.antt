@@ -1,9 +1,9 @@
 -- The root of a rounded square is at most the number, where the square neither overflows nor underflows. Assumes nothing.
 use mathlib.Core.Path.{_≡_, refl, sym, ap, _∙_, subst}
-use mathlib.Core.Logic.{_⊎_, inl, inr}
+use mathlib.Core.Logic.{inl, inr}
 use mathlib.Core.Bool.{true, false}
 use Prim.Native.Nat.{ℕ, zero, suc, _+_, _-_, _*_, _/_, _%_, _^_, _≤_, _<_}
-use native.Mathlib.Nat.{le-trans, le-of-eq, le-of-lt, lt-of-lt-of-le, lt-of-not-le, not-le-of-lt, mul-le-mul, mul-le-mul-right, mul-le-mul-left, mul-lt-mul-of-pos-right, mul-assoc, mul-pos, mul-one, one-mul, eq-or-lt-of-le, eq-zero-or-pos, le-of-mul-le-mul-right, le-of-suc-le-suc, two-mul, pow-suc, zero-lt-suc, add-le-add}
+use native.Mathlib.Nat.{le-trans, le-of-eq, le-of-lt, lt-of-lt-of-le, lt-of-not-le, not-le-of-lt, mul-le-mul-right, mul-le-mul-left, mul-lt-mul-of-pos-right, mul-assoc, mul-pos, mul-one, one-mul, le-of-mul-le-mul-right, le-of-suc-le-suc, pow-suc, zero-lt-suc, add-le-add}
 use native.Mathlib.Omega.{arith}
 use lib.Dec.{T, lit≤, lit<}
 use lib.Pow.{pow-add, pow-pos, pow-mono}
@@ -16,6 +16,8 @@ use Rattle.float64.specs.Root.{radicand, rootOf}
 use Rattle.float64.specs.RootDigits.{Placed}
 use Rattle.float64.specs.Claims.{leastSquarable}
 use Rattle.float64.proofs.Fields.{read, unitsAt}
+use Rattle.lists.proofs.Counting.{compared}
+use Rattle.float64.proofs.RootNumbers.{square-le, pow-double}
 use Rattle.float64.proofs.RootPlace.{rooted}
 use Rattle.float64.proofs.RoundError.{grid-half, drop-reaches}
 
@@ -54,17 +56,8 @@ normal y f p h =
     normal-at y (b / 2 ^ 52) (b % 2 ^ 52) (omega arith) (r .value) (le-of-mul-le-mul-right (le-trans (le-of-eq (sym (pow-add 2 563 511))) (le-trans (le-of-eq (sym (one-mul (2 ^ 1074)))) c)) (pow-pos 511))
 
 -- ---- a number above y that is a root's nearest has a radicand of (y + half a place) squared at least
-tri : (j k : ℕ) → ((j ≡ k) ⊎ (j < k)) ⊎ (k < j)
-tri j k = elim (eq-zero-or-pos (j - k)) [ inl z ↦ inl (eq-or-lt-of-le (under z)) | inr l ↦ inr (over l) ]
-  where
-    under : j - k ≡ 0 → j ≤ k
-    under z = omega arith
-
-    over : 0 < j - k → k < j
-    over z = omega arith
-
 sq-le : (a b p : ℕ) → a ≤ b → a * a * p ≤ b * b * p
-sq-le a b p h = mul-le-mul-right p (mul-le-mul h h)
+sq-le a b p h = mul-le-mul-right p (square-le a b h)
 
 doubled : (q q' j j' : ℕ) → q ≤ 2 ^ 53 → 2 ^ 52 ≤ q' → suc j ≤ j' → q * 2 ^ j ≤ q' * 2 ^ j'
 doubled q q' j j' a b h =
@@ -74,10 +67,10 @@ doubled q q' j j' a b h =
     room g = omega arith
 
 half-up : (n q j Q k : ℕ) → Placed n q j → 2 ^ 52 ≤ Q → Q < 2 ^ 53 → Q * 2 ^ k < q * 2 ^ j → (2 * Q + 1) * (2 * Q + 1) * 2 ^ (2 * k) ≤ 4 * n
-half-up n q j Q k r lo hi h = elim (tri j k) [
-  | inl (inl e) ↦ le-trans (sq-le (2 * Q + 1) (2 * q - 1) (2 ^ (2 * k)) (less (same e))) (subst (λ (z : ℕ). (2 * q - 1) * (2 * q - 1) * 2 ^ (2 * z) ≤ 4 * n) e (le-of-lt (r .above)))
-  | inl (inr l) ↦ absurd (not-le-of-lt h (doubled q Q j k (r .digits .1) lo l))
-  | inr l ↦
+half-up n q j Q k r lo hi h = elim (compared j k) [
+  | inr (inl e) ↦ le-trans (sq-le (2 * Q + 1) (2 * q - 1) (2 ^ (2 * k)) (less (same e))) (subst (λ (z : ℕ). (2 * q - 1) * (2 * q - 1) * 2 ^ (2 * z) ≤ 4 * n) e (le-of-lt (r .above)))
+  | inl l ↦ absurd (not-le-of-lt h (doubled q Q j k (r .digits .1) lo l))
+  | inr (inr l) ↦
       le-trans (sq-le (2 * Q + 1) (2 ^ 54) (2 ^ (2 * k)) (omega arith))
       (le-trans (le-of-eq (sym (pow-add 2 108 (2 * k)))) (le-trans (pow-mono (room l)) (le-trans (le-of-eq (pow-add 2 106 (2 * j))) (le-trans (le-of-eq (mul-assoc 4 (2 ^ 104) (2 ^ (2 * j)))) (mul-le-mul-left 4 (r .place .0))))))
 ]
@@ -140,9 +133,6 @@ above-finite (inf s) a f = absurd f
 above-finite (fin true m e) a f = absurd a
 above-finite (fin false m e) a f = a
 
-sq-pow : (k : ℕ) → 2 ^ (2 * k) ≡ 2 ^ k * 2 ^ k
-sq-pow k = ap (λ (z : ℕ). 2 ^ z) (two-mul k) ∙ pow-add 2 k k
-
 -- x ≤ round (y * y), so √x ≤ y
 pub root-le : (x y : Float) → T (fits binary64 x) → T (fits binary64 y) → T (positive x) → T (positive y) → T (le leastSquarable y) → T (finite (mul binary64 y y)) → T (le x (mul binary64 y y)) → T (le (rootOf x) y)
 root-le x y f g p q s F h =
@@ -159,4 +149,4 @@ root-le x y f g p q s F h =
     le-of-values (rootOf x) y (r .q * 2 ^ r .j) L n L (pow-pos 1074) (pow-pos 1074) (r .y-is) (v .value)
     (mul-le-mul-right L (le-of-suc-le-suc (lt-of-not-le (λ (c : suc n ≤ r .q * 2 ^ r .j).
     clash (v .Q) (2 ^ v .k) (r .a) G L (pow-pos (v .k)) l (square-under (v .Q) (v .k) (v .lower) (v .upper) (v .place) L refl)
-    (subst (λ (z : ℕ). (2 * v .Q + 1) * (2 * v .Q + 1) * z ≤ 4 * (r .a * L)) (sq-pow (v .k)) (half-up (radicand (r .a)) (r .q) (r .j) (v .Q) (v .k) (r .placed) (v .lower) (v .upper) c))))))
+    (subst (λ (z : ℕ). (2 * v .Q + 1) * (2 * v .Q + 1) * z ≤ 4 * (r .a * L)) (pow-double (v .k)) (half-up (radicand (r .a)) (r .q) (r .j) (v .Q) (v .k) (r .placed) (v .lower) (v .upper) c))))))

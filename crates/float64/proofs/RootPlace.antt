@@ -2,7 +2,7 @@
 use mathlib.Core.Path.{_≡_, refl, sym, ap, _∙_, subst}
 use mathlib.Core.Bool.{Bool, true, false, not, cond}
 use Prim.Native.Nat.{ℕ, zero, suc, _+_, _-_, _*_, _/_, _%_, _^_, _≤_, _<_}
-use native.Mathlib.Nat.{le-trans, le-of-eq, lt-of-lt-of-le, lt-of-le-of-lt, lt-of-not-le, not-le-of-lt, le-of-suc-le-suc, add-comm, mul-le-mul, mul-le-mul-right, mul-lt-mul-of-pos-right, mul-div-cancel, div-mul-le-self, div-lt-iff-lt-mul, le-div-iff-mul-le, le-of-mul-le-mul-right, mul-comm, mul-assoc, mul-left-comm, mul-right-comm, mul-pos, one-mul}
+use native.Mathlib.Nat.{le-trans, le-of-eq, lt-of-lt-of-le, lt-of-le-of-lt, lt-of-not-le, not-le-of-lt, le-of-suc-le-suc, add-comm, mul-le-mul, mul-le-mul-right, mul-lt-mul-of-pos-right, mul-div-cancel, div-mul-le-self, div-lt-iff-lt-mul, le-div-iff-mul-le, le-of-mul-le-mul-right, mul-comm, mul-assoc, mul-left-comm, mul-right-comm, mul-pos, one-mul, add-mul}
 use native.Mathlib.Omega.{arith}
 use lib.Dec.{T, leb, ltb, leb→le, nleb→lt, ltb→lt, nltb→le, lit≤}
 use lib.Pow.{pow-add, pow-pos, pow-mono}
@@ -13,8 +13,8 @@ use lib.Ieee.Exact.{HasValue}
 use lib.Ieee.Positive.{positive, value-pos}
 use Rattle.float64.specs.Root.{Units, radicand, floorRoot, nearestRoot, lastPlace, rootAt, rootOf}
 use Rattle.float64.specs.RootDigits.{Placed, RootPattern, Shifted}
-use Rattle.float64.proofs.Fields.{Read, read, unitsAt, made}
-use Rattle.float64.proofs.RootNumbers.{sq-lt}
+use Rattle.float64.proofs.Fields.{Read, read, unitsAt, units-below, made}
+use Rattle.float64.proofs.RootNumbers.{sq-lt, root-ge, less-one}
 
 -- ---- floorRoot
 record Cut (n r : ℕ) : Type 0 where
@@ -130,15 +130,8 @@ low-root x b p r z m w n s k =
     of-pattern x (b % 2 ^ 52) m w n p (subst (λ (E : ℕ). HasValue x false (unitsAt E (b % 2 ^ 52)) (2 ^ 1074)) z (r .value)) (low-scale m (2 ^ w) (b % 2 ^ 52) (2 ^ 1022) (2 ^ 52) (s .same)) k
 
 -- ---- there is one: every double above zero has a `Placed` root
-root-ge : (r m : ℕ) → 2 ^ 104 ≤ m → m < (r + 1) * (r + 1) → 2 ^ 52 ≤ r
-root-ge r m a b = lt-suc (lt-of-not-le (λ (g : r + 1 ≤ 2 ^ 52). not-le-of-lt b (le-trans (mul-le-mul g g) a)))
-  where
-    lt-suc : 2 ^ 52 < r + 1 → 2 ^ 52 ≤ r
-    lt-suc h = omega arith
-
 odd-square : (r p : ℕ) → 0 < r → (2 * r - 1) * (2 * r - 1) * p + (4 * r - 1) * p ≡ 4 * (r * r * p)
-odd-square (suc r) p h = let e : 2 * suc r - 1 ≡ 2 * r + 1 = omega arith in let e' : 4 * suc r - 1 ≡ 4 * r + 3 = omega arith in rw (e, e') (omega arith)
-odd-square zero p h = absurd (omega arith)
+odd-square r p h = sym (add-mul ((2 * r - 1) * (2 * r - 1)) (4 * r - 1) p) ∙ ap (λ (z : ℕ). z * p) (less-one r h) ∙ mul-assoc 4 (r * r) p
 
 -- no tie: 4 N is no odd square
 strict : (N q p : ℕ) → 0 < p → 4 * (N * p) ≤ (2 * q + 1) * (2 * q + 1) * p → 4 * (N * p) < (2 * q + 1) * (2 * q + 1) * p
@@ -204,15 +197,6 @@ multiple (suc E) t j h k =
     let e : m * 2 ^ E * 2 ^ 1074 ≡ m * 2 ^ (E + 1074) = mul-assoc m (2 ^ E) (2 ^ 1074) ∙ ap (λ (z : ℕ). m * z) (sym (pow-add 2 E 1074)) in
     (m * 2 ^ (E + 1074 - 2 * j), e ∙ whole m (E + 1074) j (omega arith) (le-trans k (le-of-eq e)))
 
-units-lt : (E t : ℕ) → E ≤ 2046 → t < 2 ^ 52 → unitsAt E t < 2 ^ 2098
-units-lt zero t h k = lt-of-lt-of-le k (lit≤ tt)
-units-lt (suc E) t h k =
-    let s : 2 ^ 52 + t < 2 ^ 53 = omega arith in
-    lt-of-lt-of-le (mul-lt-mul-of-pos-right s (pow-pos E)) (le-trans (le-of-eq (sym (pow-add 2 53 E))) (pow-mono (room E h)))
-  where
-    room : (E : ℕ) → suc E ≤ 2046 → 53 + E ≤ 2098
-    room E h = omega arith
-
 -- what is known of the root of a double above zero
 pub record Rooted (x : Float) : Type 0 where
   pub a : ℕ
@@ -233,7 +217,7 @@ rooted-at x E t p h k v =
     let N = multiple E t j k (pl .0) in
     let w = digits-at n (2 ^ (2 * j)) (N .0) (pow-pos (2 * j)) (N .1) (pl .0) (pl .1) in
     let q = nearestRoot n (2 ^ (2 * j)) in
-    let sz : size n ≤ 3172 = size-le n 3172 (lt-of-lt-of-le (mul-lt-mul-of-pos-right (units-lt E t h k) (pow-pos 1074)) (le-of-eq (sym (pow-add 2 2098 1074)))) in
+    let sz : size n ≤ 3172 = size-le n 3172 (lt-of-lt-of-le (mul-lt-mul-of-pos-right (units-below E t 2098 k (room h)) (pow-pos 1074)) (le-of-eq (sym (pow-add 2 2098 1074)))) in
     record {
       a = a;
       q = q;
@@ -243,6 +227,9 @@ rooted-at x E t p h k v =
       placed = record { digits = w .digits; place = pl; above = w .above; below = w .below };
     }
   where
+    room : E ≤ 2046 → E + 52 ≤ 2098
+    room g = omega arith
+
     half-le : (z : ℕ) → z ≤ 3172 → (z - 105) / 2 ≤ 1533
     half-le z h = omega arith
 

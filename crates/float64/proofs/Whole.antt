@@ -3,12 +3,12 @@ use mathlib.Core.Path.{_≡_, refl, sym, ap, _∙_, subst}
 use mathlib.Core.Logic.{_⊎_, inl, inr}
 use mathlib.Core.Bool.{Bool, true, false, not, true≢false}
 use Prim.Native.Nat.{ℕ, zero, suc, _+_, _-_, _*_, _/_, _%_, _^_, _≤_, _<_}
-use native.Mathlib.Nat.{le-trans, le-of-eq, lt-of-lt-of-le, lt-of-le-of-lt, not-le-of-lt, mul-lt-mul-of-pos-right, mul-assoc, mul-right-comm, mul-one, one-mul, mul-pos, zero-lt-suc, div-one, zero-mul, zero-div, div-eq-of-lt, mul-div-cancel, mul-div-mul-right, mod-eq-of-lt, mul-add-mod-self-right, eq-of-mul-eq-mul-right, div-add-mod'}
+use native.Mathlib.Nat.{le-of-eq, lt-of-le-of-lt, not-le-of-lt, mul-assoc, mul-right-comm, mul-one, one-mul, mul-pos, zero-lt-suc, div-one, zero-mul, zero-div, div-eq-of-lt, mul-div-cancel, mul-div-mul-right, mod-eq-of-lt, mul-add-mod-self-right, eq-of-mul-eq-mul-right, div-add-mod'}
 use native.Mathlib.Omega.{arith}
 use borrow.Author.Tests.{ltb-true, ltb-false}
 use lib.IntN.{ℤ, pos, negsuc}
 use lib.Dec.{T, lit≤, lit<, ltb→lt, lt→ltb}
-use lib.Pow.{pow-add, pow-pos, pow-mono, pow-lt, shr-le}
+use lib.Pow.{pow-add, pow-pos, pow-lt, shr-le}
 use lib.Ieee.{Float, nan, inf, fin, binary64, up, down, round, neg, lt, ofBits, toBits, nanBits, fits, isNan}
 use lib.Ieee.Back.{round-whole}
 use lib.Ieee.Bits.{ofBits-fits}
@@ -21,7 +21,7 @@ use lib.Ieee.Scale.{round-same}
 use Rattle.float64.specs.Constants.{nought}
 use Rattle.float64.specs.Root.{Units}
 use Rattle.float64.specs.Wave.{wholePart}
-use Rattle.float64.proofs.Fields.{read, unitsAt, made-fields}
+use Rattle.float64.proofs.Fields.{read, unitsAt, made-fields, units-below}
 use Rattle.float64.proofs.NanPattern.{no-nan-below}
 use Rattle.float64.proofs.SameValue.{fit, exact-fit, round-own, round-neg, same-value}
 
@@ -76,15 +76,6 @@ abbrev field : Float → ℕ
 field x = toBits binary64 x / 2 ^ 52
 
 -- below 1 there is none
-small-units : (E t : ℕ) → t < 2 ^ 52 → E < 1023 → unitsAt E t < 2 ^ 1074
-small-units zero t h k = lt-of-lt-of-le h (lit≤ tt)
-small-units (suc E) t h k =
-    let s : 2 ^ 52 + t < 2 ^ 53 = omega arith in
-    lt-of-lt-of-le (mul-lt-mul-of-pos-right s (pow-pos E)) (le-trans (le-of-eq (sym (pow-add 2 53 E))) (pow-mono (room k)))
-  where
-    room : suc E < 1023 → 53 + E ≤ 1074
-    room g = omega arith
-
 zero-units : Units nought 0
 unfolding ofBits
 zero-units = (refl, refl)
@@ -99,9 +90,12 @@ below-one x F p h = elim (above-is x p) [
   | inr q ↦
       let r = read x F q in
       let u = unitsAt (field x) (toBits binary64 x % 2 ^ 52) in
-      let z : 0 ≡ u / 2 ^ 1074 * 2 ^ 1074 = sym (ap (λ (n : ℕ). n * 2 ^ 1074) (div-eq-of-lt (small-units (field x) (toBits binary64 x % 2 ^ 52) (omega arith) h)) ∙ zero-mul (2 ^ 1074)) in
+      let z : 0 ≡ u / 2 ^ 1074 * 2 ^ 1074 = sym (ap (λ (n : ℕ). n * 2 ^ 1074) (div-eq-of-lt (units-below (field x) (toBits binary64 x % 2 ^ 52) 1074 (omega arith) (room (field x) h))) ∙ zero-mul (2 ^ 1074)) in
       is-whole x nought u F zero-fits q (r .value) (subst (Units nought) z zero-units)
 ]
+  where
+    room : (E : ℕ) → E < 1023 → E + 52 ≤ 1074
+    room E g = omega arith
 
 -- from 2 ^ 52 up there is no fraction
 large-units : (E t : ℕ) → 1075 ≤ E → unitsAt E t / 2 ^ 1074 * 2 ^ 1074 ≡ unitsAt E t

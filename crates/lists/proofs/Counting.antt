@@ -32,6 +32,15 @@ eq-or-ne-by k n false e = inr (eqb-false k n e)
 pub eq-or-ne : (k n : ℕ) → (k ≡ n) ⊎ (k ≡ n → ⊥)
 eq-or-ne k n = eq-or-ne-by k n (eqb k n) refl
 
+-- one number is below the other, or they are equal
+pub compared : (a b : ℕ) → (a < b) ⊎ ((a ≡ b) ⊎ (b < a))
+compared a b = by (ltb a b) (ltb b a) refl refl
+  where
+    by : (t u : Bool) → ltb a b ≡ t → ltb b a ≡ u → (a < b) ⊎ ((a ≡ b) ⊎ (b < a))
+    by true u d e = inl (ltb-true a b d)
+    by false true d e = inr (inr (ltb-true b a e))
+    by false false d e = inr (inl (le-antisymm (ltb-false b a e) (ltb-false a b d)))
+
 -- by cases on a test, with what it says
 pub by-test {ℓ} : {P : Type ℓ} (b : Bool) → (b ≡ true → P) → (b ≡ false → P) → P
 by-test true f g = f refl

@@ -1,4 +1,5 @@
 -- `nearest_root` meets its contract. Assumes nothing.
+use Prim.Native.Nat.{_*_, _^_}
 use native.Mathlib.Omega.{arith}
 use Rattle.float64.proofs.RootNumbers.{sq-lt, root-ge, nearest-up, nearest-down}
 use borrow.Author.Needs.{needs}
@@ -15,7 +16,7 @@ returns : tie.Need-returns
 returns c =
     let a = c .before .before .before in
     let e = a .floor-root .ensures in
-    let lo = root-ge (a .floor-root .result .root) (a .floor-root .result .rest) (omega arith) (e .small) in
+    let lo = root-ge (a .floor-root .result .root) (a .before .args .m * 2 ^ 52) (omega arith) (omega (arith, e .split, e .small)) in
     let hi = sq-lt (a .floor-root .result .root) (omega arith) in
     (nearest-up _ _ _ (e .split) (e .small) (c .before .if1 .taken), (omega arith, omega arith))
 
@@ -23,7 +24,7 @@ returns-2 : tie.Need-returns-2
 returns-2 c =
     let a = c .before .before in
     let e = a .floor-root .ensures in
-    let lo = root-ge (a .floor-root .result .root) (a .floor-root .result .rest) (omega arith) (e .small) in
+    let lo = root-ge (a .floor-root .result .root) (a .before .args .m * 2 ^ 52) (omega arith) (omega (arith, e .split, e .small)) in
     let hi = sq-lt (a .floor-root .result .root) (omega arith) in
     (nearest-down _ _ _ (omega arith) (e .split) (c .if1 .left), (omega arith, omega arith))
 
