@@ -10,6 +10,7 @@ pub trait StandIn {
 
 impl StandIn for f64 {
     /// E: 0 below -700; else 18 terms at t/1,024, and ten squarings.
+    #[inline]
     fn stand_in_exp(self) -> f64 {
         if self < -700.0 {
             return 0.0;
@@ -26,6 +27,7 @@ impl StandIn for f64 {
     }
 
     /// S: whole turns taken off, then 13 terms. The whole part is cut towards zero, also of a negative quotient.
+    #[inline]
     fn stand_in_sin(self) -> f64 {
         let w = 2.0 * PI;
         let n = (self / w).trunc();
@@ -41,6 +43,7 @@ impl StandIn for f64 {
     }
 
     /// C: 13 terms at t as it is.
+    #[inline]
     fn stand_in_cos(self) -> f64 {
         let mut q = 1.0;
         for k in (1..14).rev() {

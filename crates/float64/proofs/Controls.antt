@@ -1,5 +1,6 @@
--- Worked examples of the definitions. The answers are those of rustc 1.95 on x86-64 (the square root, max, min, abs, clamp and trunc) and of document 01's steps in another language's doubles (E, S and C).
--- The definitions are believed, so a wrong clause need break no other proof.
+-- Worked examples of the definitions: they are believed, so a wrong clause need break no other proof.
+-- The answers for the root, E, S, C, the whole part and radians were computed in Python's doubles, the root by its library and the others by document 01's steps.
+-- Those for max, min, abs, clamp and the bit patterns were written by hand from document 01 and IEEE 754.
 use mathlib.Core.Path.{_≡_, refl}
 use mathlib.Core.Bool.{true, false}
 use Prim.Native.Nat.{ℕ}

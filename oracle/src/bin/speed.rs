@@ -37,7 +37,24 @@ fn sum(of: impl Fn(f64) -> f64, first: f64, step: f64, count: u64) -> f64 {
     sum
 }
 
-type Loop = fn(f64, f64, u64) -> f64;
+type Loop = unsafe extern "C" fn(f64, f64, u64) -> f64;
+
+// The Rust's loops in the form of the library's, so that a pointer leads to either in one step.
+extern "C" fn rust_sqrt(first: f64, step: f64, count: u64) -> f64 {
+    sum(f64::sqrt, first, step, count)
+}
+
+extern "C" fn rust_exp(first: f64, step: f64, count: u64) -> f64 {
+    sum(f64::stand_in_exp, first, step, count)
+}
+
+extern "C" fn rust_sin(first: f64, step: f64, count: u64) -> f64 {
+    sum(f64::stand_in_sin, first, step, count)
+}
+
+extern "C" fn rust_cos(first: f64, step: f64, count: u64) -> f64 {
+    sum(f64::stand_in_cos, first, step, count)
+}
 
 /// A function, the Rust's loop over it and the library's, and the arguments from the first to the last.
 struct Timed {
@@ -51,39 +68,51 @@ struct Timed {
 const TIMED: [Timed; 4] = [
     Timed {
         name: "root",
-        rust: |first, step, count| sum(f64::sqrt, first, step, count),
-        library: |first, step, count| unsafe { sum_sqrt(first, step, count) },
+        rust: rust_sqrt,
+        library: sum_sqrt,
         first: 0.0,
         last: 1e5,
     },
     Timed {
         name: "E",
-        rust: |first, step, count| sum(f64::stand_in_exp, first, step, count),
-        library: |first, step, count| unsafe { sum_exp(first, step, count) },
+        rust: rust_exp,
+        library: sum_exp,
         first: -700.0,
         last: 0.0,
     },
     Timed {
         name: "S",
-        rust: |first, step, count| sum(f64::stand_in_sin, first, step, count),
-        library: |first, step, count| unsafe { sum_sin(first, step, count) },
+        rust: rust_sin,
+        library: sum_sin,
         first: 0.0,
         last: 1e4,
     },
     Timed {
         name: "C",
-        rust: |first, step, count| sum(f64::stand_in_cos, first, step, count),
-        library: |first, step, count| unsafe { sum_cos(first, step, count) },
+        rust: rust_cos,
+        library: sum_cos,
         first: 0.0,
         last: PI,
     },
 ];
 
+/// How the functions are reached: compiled into a loop, or called once for each argument, as where a program has several calls.
+#[derive(Clone, Copy)]
+enum Reached {
+    InPlace,
+    ByCall,
+}
+
 /// Nanoseconds per call, and the sum.
-fn time(f: Loop, first: f64, last: f64) -> (f64, f64) {
+fn time(f: Loop, first: f64, last: f64, reached: Reached) -> (f64, f64) {
     let step = (last - first) / CALLS as f64;
+    let (f, first, step) = (black_box(f), black_box(first), black_box(step));
     let began = Instant::now();
-    let sum = f(black_box(first), black_box(step), black_box(CALLS));
+    let sum = match reached {
+        Reached::InPlace => unsafe { f(first, step, black_box(CALLS)) },
+        // Either side's loop of one turn, not known at compile time, behind the same pointer.
+        Reached::ByCall => sum(|t| unsafe { f(t, step, 1) }, first, step, black_box(CALLS)),
+    };
     (began.elapsed().as_nanos() as f64 / CALLS as f64, sum)
 }
 
@@ -92,7 +121,7 @@ fn time(f: Loop, first: f64, last: f64) -> (f64, f64) {
 fn singles() -> usize {
     let mut random = Random::new(1);
     let mut expected = Vec::new();
-    let mut different = 0;
+    let (mut different, mut drawn) = (0, 0);
     for _ in 0..SINGLE {
         let job = draw::job(8, &mut random);
         let (operation, a) = (job[1], double(job[2]));
@@ -103,6 +132,7 @@ fn singles() -> usize {
             3 => unsafe { sum_cos(a, 0.0, 1) },
             _ => continue,
         };
+        drawn += 1;
         expected.clear();
         answer(&mut job.into_iter(), &mut expected).expect("a whole job");
         if !alike(bits(given), expected[0]) {
@@ -112,19 +142,21 @@ fn singles() -> usize {
             }
         }
     }
+    println!("{drawn} random arguments compared");
     different
 }
 
-fn main() {
-    let mut different = singles();
+/// The best times of the Rust and of the library for each function, and how many sums differ.
+fn table(reached: Reached) -> ([[f64; 2]; TIMED.len()], usize) {
     let mut best = [[f64::INFINITY; 2]; TIMED.len()];
+    let mut different = 0;
     // In turns, so that a slow moment of the machine meets both, and the best of each counts.
     for round in 0..ROUNDS {
         for (timed, best) in TIMED.iter().zip(&mut best) {
             let mut sums = [0.0; 2];
             for which in [round % 2, (round + 1) % 2] {
                 let f = [timed.rust, timed.library][which];
-                let (ns, sum) = time(f, timed.first, timed.last);
+                let (ns, sum) = time(f, timed.first, timed.last, reached);
                 best[which] = best[which].min(ns);
                 sums[which] = sum;
             }
@@ -134,16 +166,28 @@ fn main() {
             }
         }
     }
-    println!("ns per call      Rust   library     ratio");
-    for (timed, [rust, library]) in TIMED.iter().zip(best) {
+    (best, different)
+}
+
+fn main() {
+    let mut different = singles();
+    for (title, reached) in [("in place", Reached::InPlace), ("by call", Reached::ByCall)] {
+        let (best, differ) = table(reached);
+        different += differ;
         println!(
-            "{:<10} {rust:>10.1} {library:>9.1} {:>9.2}",
-            timed.name,
-            library / rust
+            "{title:<10} {:>10} {:>9} {:>9}   ns",
+            "Rust", "library", "ratio"
         );
+        for (timed, [rust, library]) in TIMED.iter().zip(best) {
+            println!(
+                "{:<10} {rust:>10.1} {library:>9.1} {:>9.2}",
+                timed.name,
+                library / rust
+            );
+        }
+        let [root, e] = [best[0][1], best[1][1]];
+        println!("a root takes {:.2} of the time of two E", root / (2.0 * e));
     }
-    let [root, e] = [best[0][1], best[1][1]];
-    println!("a root takes {:.2} of the time of two E", root / (2.0 * e));
     println!("{different} results differ");
     exit(if different == 0 { 0 } else { 1 });
 }
