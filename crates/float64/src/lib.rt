@@ -16,6 +16,7 @@ pub use choice::max;
 pub use choice::min;
 pub use constants::PI;
 pub use constants::SQRT_2;
+pub use constants::root_of_two;
 pub use exponential::exp;
 pub use pattern::from_bits;
 pub use pattern::to_bits;
