@@ -1,5 +1,6 @@
 pub mod Order
 pub mod Tests
+pub mod Values
 pub mod SameValue
 pub mod Choosing
 pub mod NanPattern

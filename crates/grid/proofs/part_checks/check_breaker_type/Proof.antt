@@ -1,0 +1,57 @@
+-- `check_breaker_type` meets its contract. Assumes nothing.
+use Rattle.grid.specs.Parts.{breakerTypeOk}
+use borrow.Author.Needs.{needs}
+use Rattle.grid.proofs.part_checks.check_breaker_type.Statement.{statement}
+use Rattle.grid.proofs.part_checks.check_breaker_type.Tie as tie
+
+enum-known-breaker-type : tie.Need-enum-known-breaker-type
+enum-known-breaker-type c = search needs
+
+in-range-requires : tie.Need-in-range-requires
+in-range-requires c κs = search needs
+
+enum-known-breaker-type-2 : tie.Need-enum-known-breaker-type-2
+enum-known-breaker-type-2 c = search needs
+
+in-range-requires-2 : tie.Need-in-range-requires-2
+in-range-requires-2 c κs = search needs
+
+in-range-requires-3 : tie.Need-in-range-requires-3
+in-range-requires-3 c κs = search needs
+
+enum-known-breaker-type-3 : tie.Need-enum-known-breaker-type-3
+enum-known-breaker-type-3 c = search needs
+
+in-range-requires-4 : tie.Need-in-range-requires-4
+in-range-requires-4 c κs = search needs
+
+in-range-requires-5 : tie.Need-in-range-requires-5
+in-range-requires-5 c κs = search needs
+
+returns : tie.Need-returns
+unfolding breakerTypeOk
+returns c = cc
+
+returns-2 : tie.Need-returns-2
+unfolding breakerTypeOk
+returns-2 c = cc
+
+returns-3 : tie.Need-returns-3
+unfolding breakerTypeOk
+returns-3 c = cc
+
+pub check-breaker-type-spec : {M : Type 1} → statement M
+check-breaker-type-spec =
+    tie.close
+    (tie.spec
+    enum-known-breaker-type
+    in-range-requires
+    enum-known-breaker-type-2
+    in-range-requires-2
+    in-range-requires-3
+    enum-known-breaker-type-3
+    in-range-requires-4
+    in-range-requires-5
+    returns
+    returns-2
+    returns-3)

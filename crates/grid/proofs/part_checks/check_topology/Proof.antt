@@ -1,0 +1,50 @@
+-- `check_topology` meets its contract. Assumes nothing.
+use Rattle.grid.specs.Parts.{topologyOk}
+use borrow.Author.Needs.{needs}
+use Rattle.grid.proofs.part_checks.check_topology.Statement.{statement}
+use Rattle.grid.proofs.part_checks.check_topology.Tie as tie
+
+enum-told : tie.Need-enum-told
+enum-told c = search needs
+
+enum-told-2 : tie.Need-enum-told-2
+enum-told-2 c = search needs
+
+enum-known-topology : tie.Need-enum-known-topology
+enum-known-topology c = search needs
+
+whole-in-range-requires : tie.Need-whole-in-range-requires
+whole-in-range-requires c κs = search needs
+
+enum-told-3 : tie.Need-enum-told-3
+enum-told-3 c = search needs
+
+returns : tie.Need-returns
+unfolding topologyOk
+returns c = cc
+
+returns-2 : tie.Need-returns-2
+unfolding topologyOk
+returns-2 c = cc
+
+returns-3 : tie.Need-returns-3
+unfolding topologyOk
+returns-3 c = cc
+
+returns-4 : tie.Need-returns-4
+unfolding topologyOk
+returns-4 c = cc
+
+pub check-topology-spec : {M : Type 1} → statement M
+check-topology-spec =
+    tie.close
+    (tie.spec
+    enum-told
+    enum-told-2
+    enum-known-topology
+    whole-in-range-requires
+    enum-told-3
+    returns
+    returns-2
+    returns-3
+    returns-4)

@@ -1,0 +1,18 @@
+-- `time_outside` meets its contract. Assumes nothing.
+use Rattle.grid.specs.Rules.{timeOutside}
+use borrow.Author.Needs.{needs}
+use Rattle.grid.proofs.rules.time_outside.Statement.{statement}
+use Rattle.grid.proofs.rules.time_outside.Tie as tie
+
+in-range-requires : tie.Need-in-range-requires
+in-range-requires c κs = search needs
+
+in-range-requires-2 : tie.Need-in-range-requires-2
+in-range-requires-2 c κs = search needs
+
+returns : tie.Need-returns
+unfolding timeOutside
+returns c = cc
+
+pub time-outside-spec : {M : Type 1} → statement M
+time-outside-spec = tie.close (tie.spec in-range-requires in-range-requires-2 returns)

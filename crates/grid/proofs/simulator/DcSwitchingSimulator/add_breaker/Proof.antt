@@ -1,0 +1,27 @@
+-- `add_breaker` meets its contract. Assumes nothing.
+use borrow.Author.Tests.{lt-ltb, le-ltb}
+use Rattle.grid.specs.Simulator.{withBreaker}
+use borrow.Author.Needs.{needs}
+use Rattle.grid.proofs.simulator.DcSwitchingSimulator.add_breaker.Statement.{statement}
+use Rattle.grid.proofs.simulator.DcSwitchingSimulator.add_breaker.Tie as tie
+
+mul-breaker : tie.Need-mul-breaker
+mul-breaker c = search needs
+
+element-set-from-breaker : tie.Need-element-set-from-breaker
+element-set-from-breaker c = search needs
+
+add-grid : tie.Need-add-grid
+add-grid c = search needs
+
+returns : tie.Need-returns
+unfolding withBreaker
+returns c = rw (lt-ltb _ _ (c .if1 .taken))
+
+returns-2 : tie.Need-returns-2
+unfolding withBreaker
+returns-2 c = rw (le-ltb _ _ (c .if1 .left))
+
+pub add-breaker-spec : {M : Type 1} → statement M
+add-breaker-spec =
+    tie.close (tie.spec mul-breaker element-set-from-breaker add-grid returns returns-2)

@@ -1,0 +1,26 @@
+-- `add_cable` meets its contract. Assumes nothing.
+use borrow.Author.Tests.{lt-ltb, le-ltb}
+use Rattle.grid.specs.Simulator.{withCable}
+use borrow.Author.Needs.{needs}
+use Rattle.grid.proofs.simulator.DcSwitchingSimulator.add_cable.Statement.{statement}
+use Rattle.grid.proofs.simulator.DcSwitchingSimulator.add_cable.Tie as tie
+
+mul-cable : tie.Need-mul-cable
+mul-cable c = search needs
+
+element-set-from-cable : tie.Need-element-set-from-cable
+element-set-from-cable c = search needs
+
+add-grid : tie.Need-add-grid
+add-grid c = search needs
+
+returns : tie.Need-returns
+unfolding withCable
+returns c = rw (lt-ltb _ _ (c .if1 .taken))
+
+returns-2 : tie.Need-returns-2
+unfolding withCable
+returns-2 c = rw (le-ltb _ _ (c .if1 .left))
+
+pub add-cable-spec : {M : Type 1} → statement M
+add-cable-spec = tie.close (tie.spec mul-cable element-set-from-cable add-grid returns returns-2)

@@ -1,0 +1,27 @@
+-- `add_station` meets its contract. Assumes nothing.
+use borrow.Author.Tests.{lt-ltb, le-ltb}
+use Rattle.grid.specs.Simulator.{withStation}
+use borrow.Author.Needs.{needs}
+use Rattle.grid.proofs.simulator.DcSwitchingSimulator.add_station.Statement.{statement}
+use Rattle.grid.proofs.simulator.DcSwitchingSimulator.add_station.Tie as tie
+
+mul-station : tie.Need-mul-station
+mul-station c = search needs
+
+element-set-from-station : tie.Need-element-set-from-station
+element-set-from-station c = search needs
+
+add-grid : tie.Need-add-grid
+add-grid c = search needs
+
+returns : tie.Need-returns
+unfolding withStation
+returns c = rw (lt-ltb _ _ (c .if1 .taken))
+
+returns-2 : tie.Need-returns-2
+unfolding withStation
+returns-2 c = rw (le-ltb _ _ (c .if1 .left))
+
+pub add-station-spec : {M : Type 1} → statement M
+add-station-spec =
+    tie.close (tie.spec mul-station element-set-from-station add-grid returns returns-2)

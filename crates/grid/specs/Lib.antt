@@ -1,0 +1,6 @@
+pub mod Ranges
+pub mod Parts
+pub mod Simulator
+pub mod Steps
+pub mod Breakers
+pub mod Rules

@@ -1,0 +1,81 @@
+-- A grid: what `new` makes, what a part more makes of it, and which parts it has. Definitions only.
+use Prim.Native.Nat.{ℕ, _+_}
+use mathlib.Core.Bool.{Bool, true, false, cond}
+use mathlib.Core.List.{List}
+use lib.Dec.{ltb}
+use lib.ListN.{take, set, replicate}
+use lib.Ieee.{Float}
+use Rattle.float64.specs.Constants.{nought}
+use Rattle.grid.specs.declared.parts.ConverterTopology.the-variants.{Lcc}
+use Rattle.grid.specs.declared.parts.DcBreakerType.the-variants.{Mechanical}
+use Rattle.grid.specs.declared.parts.ConverterStation.{ConverterStation}
+use Rattle.grid.specs.declared.parts.DcCable.{DcCable}
+use Rattle.grid.specs.declared.parts.DcBreaker.{DcBreaker}
+use Rattle.grid.specs.declared.simulator.DcSwitchingSimulator.{DcSwitchingSimulator}
+use Rattle.grid.specs.declared.simulator.Added.{Added}
+use Rattle.grid.specs.Steps.{keptTimeStep, keptDuration}
+
+-- the parts that the counts speak of: what stands past a count is none of the grid's, and a count past an array takes all of it
+abbrev pub stationsOf : DcSwitchingSimulator → List ConverterStation
+stationsOf g = take (g .«n_stations») (g .stations)
+
+abbrev pub cablesOf : DcSwitchingSimulator → List DcCable
+cablesOf g = take (g .«n_cables») (g .cables)
+
+abbrev pub breakersOf : DcSwitchingSimulator → List DcBreaker
+breakersOf g = take (g .«n_breakers») (g .breakers)
+
+-- what an array holds where no part was put
+abbrev pub blankStation : ConverterStation
+blankStation =
+    record {
+      id = 0;
+      topology = Lcc;
+      «v_dc_rated_kv» = nought;
+      «p_rated_mw» = nought;
+      «x_transformer_pu» = nought;
+      scr = nought;
+      «control_angle_deg» = nought;
+      «x_commutation_pu» = nought;
+      «arm_inductance_mh» = nought;
+      «sm_capacitance_uf» = nought
+    }
+
+abbrev pub blankCable : DcCable
+blankCable = record { id = 0; «from_station» = 0; «to_station» = 0; «r_per_km» = nought; «l_per_km» = nought; «c_per_km» = nought; «length_km» = nought }
+
+abbrev pub blankBreaker : DcBreaker
+blankBreaker = record { id = 0; «station_id» = 0; «breaker_type» = Mechanical nought; «max_breaking_current_ka» = nought; «energy_absorption_mj» = nought }
+
+-- `new`: no parts yet, and the time step and the duration as they are kept
+unfoldable pub newSimulator : Float → Float → DcSwitchingSimulator
+newSimulator dt duration =
+    record {
+      stations = replicate 32 blankStation;
+      cables = replicate 64 blankCable;
+      breakers = replicate 32 blankBreaker;
+      «n_stations» = 0;
+      «n_cables» = 0;
+      «n_breakers» = 0;
+      «dt_us» = keptTimeStep dt;
+      «duration_ms» = keptDuration duration
+    }
+
+-- a part put at the end, where there is room; else the grid as it was
+unfoldable pub withStation : DcSwitchingSimulator → ConverterStation → Added
+withStation g s =
+    cond (ltb (g .«n_stations») 32)
+    (record { grid = record { stations = set (g .stations) (g .«n_stations») s; cables = g .cables; breakers = g .breakers; «n_stations» = g .«n_stations» + 1; «n_cables» = g .«n_cables»; «n_breakers» = g .«n_breakers»; «dt_us» = g .«dt_us»; «duration_ms» = g .«duration_ms» }; «has_room» = true })
+    (record { grid = g; «has_room» = false })
+
+unfoldable pub withCable : DcSwitchingSimulator → DcCable → Added
+withCable g c =
+    cond (ltb (g .«n_cables») 64)
+    (record { grid = record { stations = g .stations; cables = set (g .cables) (g .«n_cables») c; breakers = g .breakers; «n_stations» = g .«n_stations»; «n_cables» = g .«n_cables» + 1; «n_breakers» = g .«n_breakers»; «dt_us» = g .«dt_us»; «duration_ms» = g .«duration_ms» }; «has_room» = true })
+    (record { grid = g; «has_room» = false })
+
+unfoldable pub withBreaker : DcSwitchingSimulator → DcBreaker → Added
+withBreaker g b =
+    cond (ltb (g .«n_breakers») 32)
+    (record { grid = record { stations = g .stations; cables = g .cables; breakers = set (g .breakers) (g .«n_breakers») b; «n_stations» = g .«n_stations»; «n_cables» = g .«n_cables»; «n_breakers» = g .«n_breakers» + 1; «dt_us» = g .«dt_us»; «duration_ms» = g .«duration_ms» }; «has_room» = true })
+    (record { grid = g; «has_room» = false })

@@ -1,0 +1,143 @@
+// A grid with its time step and duration, by value.
+ghost use mathlib.Core.Path.{_≡_};
+ghost use Prim.Native.Nat.{min};
+ghost use Rattle.grid.specs.Simulator.{newSimulator, withStation, withCable, withBreaker};
+use crate::parts::ConverterStation;
+use crate::parts::ConverterTopology;
+use crate::parts::DcBreaker;
+use crate::parts::DcBreakerType;
+use crate::parts::DcCable;
+use crate::steps;
+
+// 000's simulator. What stands in an array at or past its count is never read.
+pub struct DcSwitchingSimulator {
+    pub stations: [ConverterStation; 32],
+    pub cables: [DcCable; 64],
+    pub breakers: [DcBreaker; 32],
+    pub n_stations: usize,
+    pub n_cables: usize,
+    pub n_breakers: usize,
+    pub dt_us: f64,
+    pub duration_ms: f64,
+}
+
+// The grid with a part more, or the same grid where there is no room.
+pub struct Added {
+    pub grid: DcSwitchingSimulator,
+    pub has_room: bool,
+}
+
+impl DcSwitchingSimulator {
+    // DcSwitchingSimulator::new
+    pub fn new(dt_us: f64, duration_ms: f64) -> Self
+        ensures { λ r. ⌜ r ≡ newSimulator «dt_us» «duration_ms» ⌝ }
+    {
+        let station = ConverterStation {
+            id: 0,
+            topology: ConverterTopology::Lcc,
+            v_dc_rated_kv: 0.0,
+            p_rated_mw: 0.0,
+            x_transformer_pu: 0.0,
+            scr: 0.0,
+            control_angle_deg: 0.0,
+            x_commutation_pu: 0.0,
+            arm_inductance_mh: 0.0,
+            sm_capacitance_uf: 0.0,
+        };
+        let cable = DcCable {
+            id: 0,
+            from_station: 0,
+            to_station: 0,
+            r_per_km: 0.0,
+            l_per_km: 0.0,
+            c_per_km: 0.0,
+            length_km: 0.0,
+        };
+        let breaker = DcBreaker {
+            id: 0,
+            station_id: 0,
+            breaker_type: DcBreakerType::Mechanical {
+                opening_time_ms: 0.0,
+            },
+            max_breaking_current_ka: 0.0,
+            energy_absorption_mj: 0.0,
+        };
+        DcSwitchingSimulator {
+            stations: [station; 32],
+            cables: [cable; 64],
+            breakers: [breaker; 32],
+            n_stations: 0,
+            n_cables: 0,
+            n_breakers: 0,
+            dt_us: steps::kept_time_step(dt_us),
+            duration_ms: steps::kept_duration(duration_ms),
+        }
+    }
+
+    // DcSwitchingSimulator::add_station
+    pub fn add_station(self, station: ConverterStation) -> Added
+        ensures { λ r. ⌜ r ≡ withStation self station ⌝ }
+    {
+        let mut grid = self;
+        let n = grid.n_stations;
+        if n < 32 {
+            grid.stations[n] = station;
+            grid.n_stations = n + 1;
+            return Added {
+                grid,
+                has_room: true,
+            };
+        }
+        Added {
+            grid,
+            has_room: false,
+        }
+    }
+
+    // DcSwitchingSimulator::add_cable
+    pub fn add_cable(self, cable: DcCable) -> Added
+        ensures { λ r. ⌜ r ≡ withCable self cable ⌝ }
+    {
+        let mut grid = self;
+        let n = grid.n_cables;
+        if n < 64 {
+            grid.cables[n] = cable;
+            grid.n_cables = n + 1;
+            return Added {
+                grid,
+                has_room: true,
+            };
+        }
+        Added {
+            grid,
+            has_room: false,
+        }
+    }
+
+    // DcSwitchingSimulator::add_breaker
+    pub fn add_breaker(self, breaker: DcBreaker) -> Added
+        ensures { λ r. ⌜ r ≡ withBreaker self breaker ⌝ }
+    {
+        let mut grid = self;
+        let n = grid.n_breakers;
+        if n < 32 {
+            grid.breakers[n] = breaker;
+            grid.n_breakers = n + 1;
+            return Added {
+                grid,
+                has_room: true,
+            };
+        }
+        Added {
+            grid,
+            has_room: false,
+        }
+    }
+}
+
+// How many elements of an array a count speaks of.
+pub fn present(count: usize, length: usize) -> usize
+    ensures { λ r. ⌜ r ≡ min count length ⌝ }
+{
+    if count < length { count } else { length }
+}
