@@ -4,3 +4,6 @@ pub mod Ceiling
 pub mod Records
 pub mod Refused
 pub mod Stepping
+pub mod Examples
+pub mod Deciding
+pub mod Claims

@@ -9,7 +9,7 @@ use lib.Dec.{eqb}
 use Rattle.grid.specs.Steps.{intervalOf, recorded, countBelow, recordsOf}
 use Rattle.grid.proofs.Ceiling.{ceiling, ceiling-le, multiples, count-alike}
 
-or-true : (a b : Bool) → b ≡ true → (a || b) ≡ true
+pub or-true : (a b : Bool) → b ≡ true → (a || b) ≡ true
 or-true true b e = refl
 or-true false b e = e
 
@@ -37,7 +37,7 @@ module _ (n : ℕ) (h : 0 < n) where
   abbrev d : ℕ
   d = intervalOf n
 
-  records-of : recordsOf n ≡ 1 + ceiling (n - 1) d
+  pub records-of : recordsOf n ≡ 1 + ceiling (n - 1) d
   records-of = let e : suc (n - 1) ≡ n = omega arith in rw e at (records-are (n - 1))
 
   pub none-left : (n - 1) % d ≡ 0 → (n - 1) / d + 1 ≡ recordsOf n

@@ -51,19 +51,20 @@ all-small : (k : ℕ) → small (rowOf k) ≡ true
 unfolding small
 all-small k = passed small (ends 1 0) table k refl refl
 
-module _ (k n : ℕ) where
-  low-small : rowOf k .low < 2 ^ 53
+module _ (k : ℕ) where
+  pub low-small : rowOf k .low < 2 ^ 53
   unfolding small
   low-small = ltb-true _ _ (left _ (ltb (rowOf k .high) (2 ^ 53)) (all-small k))
 
-  high-small : rowOf k .high < 2 ^ 53
+  pub high-small : rowOf k .high < 2 ^ 53
   unfolding small
   high-small = ltb-true _ _ (right (ltb (rowOf k .low) (2 ^ 53)) _ (all-small k))
 
+module _ (k n : ℕ) where
   pub whole-real : n < 2 ^ 53 → realIn (rowOf k) (ofInt binary64 (pos n)) ≡ wholeIn (rowOf k) n
   unfolding realIn wholeIn
-  whole-real h = let l = low-small in let u = high-small in rw (whole-le (rowOf k .low) n (omega arith) (omega arith), whole-le n (rowOf k .high) (omega arith) (omega arith))
+  whole-real h = let l = low-small k in let u = high-small k in rw (whole-le (rowOf k .low) n (omega arith) (omega arith), whole-le n (rowOf k .high) (omega arith) (omega arith))
 
   pub whole-past : 2 ^ 53 ≤ n → false ≡ wholeIn (rowOf k) n
   unfolding wholeIn
-  whole-past h = let u = high-small in sym (and-second (leb (rowOf k .low) n) (leb n (rowOf k .high)) (lt-leb n (rowOf k .high) (omega arith)))
+  whole-past h = let u = high-small k in sym (and-second (leb (rowOf k .low) n) (leb n (rowOf k .high)) (lt-leb n (rowOf k .high) (omega arith)))

@@ -4,3 +4,5 @@ pub mod Simulator
 pub mod Steps
 pub mod Breakers
 pub mod Rules
+pub mod Claims
+pub mod Examples

@@ -1,5 +1,6 @@
 -- `breaker_clearing_time_ms` meets its contract. Assumes nothing.
 use Rattle.grid.specs.Breakers.{clearingTimeOf}
+use mathlib.Core.Path.{sym, ap}
 use borrow.Author.Needs.{needs}
 use Rattle.grid.proofs.breakers.breaker_clearing_time_ms.Statement.{statement}
 use Rattle.grid.proofs.breakers.breaker_clearing_time_ms.Tie as tie
@@ -15,15 +16,15 @@ enum-known-breaker-type-3 c = search needs
 
 returns : tie.Need-returns
 unfolding clearingTimeOf
-returns c = cc
+returns c = ap clearingTimeOf (sym (c .before .breaker-type .given .1))
 
 returns-2 : tie.Need-returns-2
 unfolding clearingTimeOf
-returns-2 c = cc
+returns-2 c = ap clearingTimeOf (sym (c .before .breaker-type2 .given .1))
 
 returns-3 : tie.Need-returns-3
 unfolding clearingTimeOf
-returns-3 c = cc
+returns-3 c = ap clearingTimeOf (sym (c .before .breaker-type3 .given .1))
 
 pub breaker-clearing-time-ms-spec : {M : Type 1} → statement M
 breaker-clearing-time-ms-spec =

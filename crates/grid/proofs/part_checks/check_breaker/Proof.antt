@@ -21,7 +21,7 @@ in-range-requires-2 c κs = search needs
 
 returns : tie.Need-returns
 unfolding breakerOk
-returns c = cc
+returns c = rw (c .before .before .before .before .check-breaker-type .ensures, c .before .before .before .whole-in-range .ensures, c .before .before .whole-in-range2 .ensures, c .before .in-range .ensures, c .in-range2 .ensures)
 
 pub check-breaker-spec : {M : Type 1} → statement M
 check-breaker-spec =

@@ -1,5 +1,6 @@
 -- `check_breaker_type` meets its contract. Assumes nothing.
 use Rattle.grid.specs.Parts.{breakerTypeOk}
+use mathlib.Core.Path.{sym, ap, _∙_}
 use borrow.Author.Needs.{needs}
 use Rattle.grid.proofs.part_checks.check_breaker_type.Statement.{statement}
 use Rattle.grid.proofs.part_checks.check_breaker_type.Tie as tie
@@ -30,15 +31,15 @@ in-range-requires-5 c κs = search needs
 
 returns : tie.Need-returns
 unfolding breakerTypeOk
-returns c = cc
+returns c = c .in-range .ensures ∙ ap breakerTypeOk (sym (c .before .before .breaker-type .given .1))
 
 returns-2 : tie.Need-returns-2
 unfolding breakerTypeOk
-returns-2 c = cc
+returns-2 c = rw (c .before .in-range2 .ensures, c .in-range3 .ensures) (ap breakerTypeOk (sym (c .before .before .before .breaker-type2 .given .1)))
 
 returns-3 : tie.Need-returns-3
 unfolding breakerTypeOk
-returns-3 c = cc
+returns-3 c = rw (c .before .in-range4 .ensures, c .in-range5 .ensures) (ap breakerTypeOk (sym (c .before .before .before .breaker-type3 .given .1)))
 
 pub check-breaker-type-spec : {M : Type 1} → statement M
 check-breaker-type-spec =

@@ -27,7 +27,7 @@ in-range-requires-4 c κs = search needs
 
 returns : tie.Need-returns
 unfolding cableOk
-returns c = cc
+returns c = rw (c .before .before .before .before .before .before .whole-in-range .ensures, c .before .before .before .before .before .whole-in-range2 .ensures, c .before .before .before .before .whole-in-range3 .ensures, c .before .before .before .in-range .ensures, c .before .before .in-range2 .ensures, c .before .in-range3 .ensures, c .in-range4 .ensures)
 
 pub check-cable-spec : {M : Type 1} → statement M
 check-cable-spec =

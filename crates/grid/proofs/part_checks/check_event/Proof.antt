@@ -18,7 +18,7 @@ in-range-requires-3 c κs = search needs
 
 returns : tie.Need-returns
 unfolding faultOk
-returns c = cc
+returns c = rw (c .before .before .before .whole-in-range .ensures, c .before .before .in-range .ensures, c .before .in-range2 .ensures, c .in-range3 .ensures)
 
 pub check-event-spec : {M : Type 1} → statement M
 check-event-spec =

@@ -18,7 +18,7 @@ whole-in-range-requires-2 c κs = search needs
 
 returns : tie.Need-returns
 unfolding orderOk
-returns c = cc
+returns c = rw (c .before .before .before .before .in-range .ensures, c .before .before .before .in-range2 .ensures, c .before .before .whole-in-range .ensures, c .before .whole-in-range2 .ensures)
 
 pub check-order-spec : {M : Type 1} → statement M
 check-order-spec =

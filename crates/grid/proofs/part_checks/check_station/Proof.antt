@@ -36,7 +36,7 @@ in-range-requires-8 c κs = search needs
 
 returns : tie.Need-returns
 unfolding stationOk
-returns c = cc
+returns c = rw (c .before .before .before .before .before .before .before .before .before .check-topology .ensures, c .before .before .before .before .before .before .before .before .whole-in-range .ensures, c .before .before .before .before .before .before .before .in-range .ensures, c .before .before .before .before .before .before .in-range2 .ensures, c .before .before .before .before .before .in-range3 .ensures, c .before .before .before .before .in-range4 .ensures, c .before .before .before .in-range5 .ensures, c .before .before .in-range6 .ensures, c .before .in-range7 .ensures, c .in-range8 .ensures)
 
 pub check-station-spec : {M : Type 1} → statement M
 check-station-spec =

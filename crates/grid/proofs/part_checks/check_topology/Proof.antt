@@ -1,5 +1,6 @@
 -- `check_topology` meets its contract. Assumes nothing.
 use Rattle.grid.specs.Parts.{topologyOk}
+use mathlib.Core.Path.{sym, ap, _∙_}
 use borrow.Author.Needs.{needs}
 use Rattle.grid.proofs.part_checks.check_topology.Statement.{statement}
 use Rattle.grid.proofs.part_checks.check_topology.Tie as tie
@@ -21,19 +22,19 @@ enum-told-3 c = search needs
 
 returns : tie.Need-returns
 unfolding topologyOk
-returns c = cc
+returns c = ap topologyOk (sym (c .enum-told .given .1))
 
 returns-2 : tie.Need-returns-2
 unfolding topologyOk
-returns-2 c = cc
+returns-2 c = ap topologyOk (sym (c .enum-told2 .given .1))
 
 returns-3 : tie.Need-returns-3
 unfolding topologyOk
-returns-3 c = cc
+returns-3 c = c .whole-in-range .ensures ∙ ap topologyOk (sym (c .before .before .topology .given .1))
 
 returns-4 : tie.Need-returns-4
 unfolding topologyOk
-returns-4 c = cc
+returns-4 c = ap topologyOk (sym (c .enum-told3 .given .1))
 
 pub check-topology-spec : {M : Type 1} → statement M
 check-topology-spec =

@@ -12,7 +12,7 @@ in-range-requires-2 c κs = search needs
 
 returns : tie.Need-returns
 unfolding timeOutside
-returns c = cc
+returns c = rw (c .before .in-range .ensures, c .in-range2 .ensures)
 
 pub time-outside-spec : {M : Type 1} → statement M
 time-outside-spec = tie.close (tie.spec in-range-requires in-range-requires-2 returns)

@@ -13,7 +13,7 @@ last-step-requires : tie.Need-last-step-requires
 last-step-requires c κs = search needs
 
 returns : tie.Need-returns
-returns c = cc
+returns c = rw (c .before .record-interval .ensures, c .last-step .ensures)
 
 pub is-recorded-spec : {M : Type 1} → statement M
 is-recorded-spec =

@@ -7,7 +7,7 @@ max-requires : tie.Need-max-requires
 max-requires c κs = search needs
 
 returns : tie.Need-returns
-returns c = cc
+returns c = rw (c .max .ensures)
 
 pub time-step-ms-spec : {M : Type 1} → statement M
 time-step-ms-spec = tie.close (tie.spec max-requires returns)

@@ -15,7 +15,7 @@ steps-up-to-limit-requires c κs = search needs
 
 returns : tie.Need-returns
 unfolding stepsOf
-returns c = cc
+returns c = rw (c .before .before .duration-ms .ensures, c .before .time-step-ms .ensures) at (c .steps-up-to-limit .ensures)
 
 pub total-steps-spec : {M : Type 1} → statement M
 total-steps-spec =

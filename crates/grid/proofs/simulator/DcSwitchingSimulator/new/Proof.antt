@@ -12,7 +12,7 @@ kept-duration-requires c κs = search needs
 
 returns : tie.Need-returns
 unfolding newSimulator
-returns c = cc
+returns c = rw (c .before .kept-time-step .ensures, c .kept-duration .ensures)
 
 pub new-spec : {M : Type 1} → statement M
 new-spec = tie.close (tie.spec kept-time-step-requires kept-duration-requires returns)
