@@ -1,5 +1,5 @@
 -- Doubles from 0 up compare as the fractions that they are. Assumes nothing.
-use mathlib.Core.Path.{_≡_, refl, sym, _∙_}
+use mathlib.Core.Path.{_≡_, sym, _∙_}
 use mathlib.Core.Logic.{⊎-elim}
 use mathlib.Core.Bool.{true, false, _&&_, _||_, true≢false}
 use Prim.Native.Nat.{ℕ, _*_, _≤_, _<_}

@@ -5,9 +5,9 @@ use native.Mathlib.Omega.{arith}
 use mathlib.Core.Path.{_≡_, refl, sym, ap, _∙_}
 use mathlib.Core.Logic.{⊎-elim}
 use mathlib.Core.Bool.{Bool, true, false, cond}
-use borrow.Author.Tests.{eq-eqb, ne-eqb}
+use borrow.Author.Tests.{ne-eqb}
 use lib.Dec.{eqb}
-use Rattle.lists.proofs.Counting.{eq-or-ne, by-test}
+use Rattle.lists.proofs.Counting.{eq-or-ne}
 use Rattle.grid.specs.Steps.{countBelow}
 
 -- n / d, and one more where something is left
@@ -22,14 +22,14 @@ ceiling-suc : (l d : ℕ) → 0 < d → ceiling (suc l) d ≡ suc (l / d)
 ceiling-suc l d p =
     ⊎-elim
     (λ e. let s : suc l ≡ suc (l / d) * d = omega (arith, div-add-mod' l d) in
-          let q : suc l / d ≡ suc (l / d) = div-eq-of-eq-mul-left p s in
-          let r : suc l % d ≡ 0 = ap (λ (x : ℕ). x % d) s ∙ mul-mod-left (suc (l / d)) d in
-          rw (q, r) (let z : suc (l / d) + 0 ≡ suc (l / d) = omega arith in z))
+    let q : suc l / d ≡ suc (l / d) = div-eq-of-eq-mul-left p s in
+    let r : suc l % d ≡ 0 = ap (λ (x : ℕ). x % d) s ∙ mul-mod-left (suc (l / d)) d in
+    rw (q, r) (let z : suc (l / d) + 0 ≡ suc (l / d) = omega arith in z))
     (λ ne. let h : suc (l % d) < d = omega (arith, mod-lt l p) in
-           let s : suc l ≡ l / d * d + suc (l % d) = omega (arith, div-add-mod' l d) in
-           let q : suc l / d ≡ l / d + 0 = ap (λ (x : ℕ). x / d) s ∙ mul-add-div-right p (l / d) (suc (l % d)) ∙ ap (λ (x : ℕ). l / d + x) (div-eq-of-lt h) in
-           let r : suc l % d ≡ suc (l % d) = ap (λ (x : ℕ). x % d) s ∙ mul-add-mod-self-right (l / d) d (suc (l % d)) ∙ mod-eq-of-lt h in
-           rw (q, r, ne-eqb (suc (l % d)) 0 (λ e. omega arith)) (let z : l / d + 0 + 1 ≡ suc (l / d) = omega arith in z))
+    let s : suc l ≡ l / d * d + suc (l % d) = omega (arith, div-add-mod' l d) in
+    let q : suc l / d ≡ l / d + 0 = ap (λ (x : ℕ). x / d) s ∙ mul-add-div-right p (l / d) (suc (l % d)) ∙ ap (λ (x : ℕ). l / d + x) (div-eq-of-lt h) in
+    let r : suc l % d ≡ suc (l % d) = ap (λ (x : ℕ). x % d) s ∙ mul-add-mod-self-right (l / d) d (suc (l % d)) ∙ mod-eq-of-lt h in
+    rw (q, r, ne-eqb (suc (l % d)) 0 (λ e. omega arith)) (let z : l / d + 0 + 1 ≡ suc (l / d) = omega arith in z))
     (eq-or-ne (suc (l % d)) d)
 
 pub ceiling-le : (n d : ℕ) → 0 < d → ceiling n d ≤ n

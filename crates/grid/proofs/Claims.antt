@@ -4,7 +4,7 @@ use native.Mathlib.Nat.{le-refl, le-of-suc-le-suc, not-suc-le-zero, zero-mod}
 use native.Mathlib.Omega.{arith}
 use mathlib.Core.Path.{_≡_, refl, sym, ap, _∙_}
 use mathlib.Core.Logic.{_↔_}
-use mathlib.Core.Bool.{Bool, true, false, not, _&&_, cond}
+use mathlib.Core.Bool.{Bool, true, false, not}
 use mathlib.Core.List.{List, [], _∷_}
 use borrow.Author.Tests.{eq-eqb, ltb-false, le-leb, leb-true}
 use lib.Dec.{leb, ltb, eqb}
@@ -14,11 +14,11 @@ use lib.Ieee.{nan, fin, binary64, up, down, ofInt, le, lt, eq}
 use lib.Ieee.Fits.{down-pos}
 use Rattle.lists.specs.Scans.{every}
 use Rattle.lists.proofs.Counting.{by-test}
-use Rattle.lists.proofs.Scanning.{left, right, and-second, passed, passing-short}
+use Rattle.lists.proofs.Scanning.{and-second, passed, passing-short}
 use Rattle.grid.specs.Ranges.{Ends, ends, table, rowOf, realIn, wholeIn}
 use Rattle.grid.specs.Parts.{stationOk, cableOk, breakerOk, faultOk, orderOk}
 use Rattle.grid.specs.Simulator.{stationsOf, cablesOf, breakersOf}
-use Rattle.grid.specs.Steps.{roundedUp, stepsOf, mostSteps, countedTo, intervalOf, recorded, recordsOf}
+use Rattle.grid.specs.Steps.{roundedUp, stepsOf, mostSteps, intervalOf}
 use Rattle.grid.specs.Rules.{broken, tooManySteps, switchingOrder, faultOrder, stationOutside, cableOutside, breakerOutside, flowRefusal, detectionRefusal, switchingRefusal, faultRefusal, sweepRefusal, pointRefusal, numberOf}
 use Rattle.grid.specs.Claims.{RangeClaims, RefusalClaims, PositionClaims, Steps, StepClaims}
 use Rattle.grid.specs.declared.parts.ConverterStation.{ConverterStation}
@@ -57,7 +57,7 @@ range-claims =
       low-inside = λ k h. whole-real k (rowOf k .low) (low-small k) ∙ wholly (rowOf k) (rowOf k .low) (le-refl _) (ordered k h);
       high-inside = λ k h. whole-real k (rowOf k .high) (high-small k) ∙ wholly (rowOf k) (rowOf k .high) (ordered k h) (le-refl _);
       whole = whole-real;
-      whole-past = λ k n h. sym (whole-past k n h)
+      whole-past = λ k n h. sym (whole-past k n h);
     }
 
 -- ---- refusals
@@ -83,14 +83,14 @@ point-six : (s : ConverterStation) → (pointRefusal s ≡ 6) ↔ (stationOk s �
 unfolding pointRefusal
 point-six s = (
   (λ e. by-test (stationOk s) (λ b. absurd (let q : 0 ≡ 6 = rw b at e in omega arith)) (λ b. b)),
-  (λ b. rw b)
+  (λ b. rw b),
 )
 
 point-nought : (s : ConverterStation) → (pointRefusal s ≡ 0) ↔ (stationOk s ≡ true)
 unfolding pointRefusal
 point-nought s = (
   (λ e. by-test (stationOk s) (λ b. b) (λ b. absurd (let q : 6 ≡ 0 = rw b at e in omega arith))),
-  (λ b. rw b)
+  (λ b. rw b),
 )
 
 pub refusal-claims : RefusalClaims
@@ -104,7 +104,7 @@ refusal-claims =
       sweep = λ g o. decides (broken g (not (orderOk o))) _ refl refl;
       point-refused = point-six;
       point-accepted = point-nought;
-      known = λ v w e. sym (answered v) ∙ ap answerOf e ∙ answered w
+      known = λ v w e. sym (answered v) ∙ ap answerOf e ∙ answered w;
     }
 
 -- ---- positions
@@ -115,7 +115,7 @@ position-claims =
     record {
       station = λ g. sym (passing-short stationOk (stationsOf g));
       cable = λ g. sym (passing-short cableOk (cablesOf g));
-      breaker = λ g. sym (passing-short breakerOk (breakersOf g))
+      breaker = λ g. sym (passing-short breakerOk (breakersOf g));
     }
 
 -- ---- steps
@@ -145,5 +145,5 @@ step-claims =
       counted = λ n h. (let l = h .1 in omega arith);
       records = λ n h. records-of n h ∙ ap (λ (x : ℕ). 1 + x) (sym (ceiling-is (n - 1) (intervalOf n) (interval-above n)));
       first-recorded = λ n. (rw (zero-mod (intervalOf n)));
-      last-recorded = λ n. or-true (eqb ((n - 1) % intervalOf n) 0) (eqb (n - 1) (n - 1)) (eq-eqb (n - 1) (n - 1) refl)
+      last-recorded = λ n. or-true (eqb ((n - 1) % intervalOf n) 0) (eqb (n - 1) (n - 1)) (eq-eqb (n - 1) (n - 1) refl);
     }

@@ -1,10 +1,9 @@
 -- The first of an order's rules that is broken, where no number stands twice in the order and none is 0. Assumes nothing.
 use Prim.Native.Nat.{ℕ}
-use mathlib.Core.Path.{_≡_, refl, sym, ap, _∙_}
-use mathlib.Core.Logic.{_↔_}
-use mathlib.Core.Bool.{Bool, true, false, not, _&&_, _||_, cond, true≢false}
+use mathlib.Core.Path.{_≡_, refl, sym, _∙_}
+use mathlib.Core.Bool.{Bool, true, false, not, _&&_, _||_, true≢false}
 use mathlib.Core.List.{List, [], _∷_, _++_}
-use borrow.Author.Tests.{eq-eqb, eqb-true}
+use borrow.Author.Tests.{eq-eqb}
 use lib.Dec.{eqb}
 use Rattle.lists.specs.Scans.{every}
 use Rattle.lists.proofs.Counting.{by-test}
@@ -57,10 +56,10 @@ module _ (breaks : ℕ → Bool) where
   broken-first (j ∷ js) after k z u e =
       by-test (breaks j)
       (λ b. let q : j ≡ k = rw b at e in
-            clash (among-later js after k) (rw q at (not-true (among (js ++ (k ∷ after)) j) (left (not (among (js ++ (k ∷ after)) j)) (once (js ++ (k ∷ after))) u))))
+      clash (among-later js after k) (rw q at (not-true (among (js ++ (k ∷ after)) j) (left (not (among (js ++ (k ∷ after)) j)) (once (js ++ (k ∷ after))) u))))
       (λ b. let q : first breaks (js ++ (k ∷ after)) ≡ k = rw b at e in
-            let r = broken-first js after k z (right (not (among (js ++ (k ∷ after)) j)) (once (js ++ (k ∷ after))) u) q in
-            (r .0, both (kept j) (every kept js) (kept-of j b) (r .1)))
+      let r = broken-first js after k z (right (not (among (js ++ (k ∷ after)) j)) (once (js ++ (k ∷ after))) u) q in
+      (r .0, both (kept j) (every kept js) (kept-of j b) (r .1)))
 
   first-broken : (before after : List ℕ) (k : ℕ) → breaks k ≡ true → every kept before ≡ true → first breaks (before ++ (k ∷ after)) ≡ k
   unfolding first
@@ -92,7 +91,7 @@ module _ (breaks : ℕ → Bool) where
       record {
         refused = λ before after k s. (
           (λ e. broken-first before after k (among-split order before after k s z) (rw s at u) (rw s at e)),
-          (λ h. rw s (first-broken before after k (h .0) (h .1)))
+          (λ h. rw s (first-broken before after k (h .0) (h .1))),
         );
-        accepted = (none-broken order z, accepted-first order)
+        accepted = (none-broken order z, accepted-first order);
       }

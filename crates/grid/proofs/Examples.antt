@@ -1,6 +1,5 @@
 -- Document 01's examples marked P, by computation. Assumes nothing.
 use mathlib.Core.Path.{refl}
-use lib.Count.{trailingZeros}
 use lib.Ieee.{size, ofBits, toBits, ofInt, round, neg, add, sub, mul, div, lt, le, eq, isNan}
 use Rattle.float64.specs.Choice.{maxOf, clampOf}
 use Rattle.float64.specs.Root.{floorRoot, nearestRoot, rootOf}
@@ -25,5 +24,5 @@ examples =
       solid-state = λ loss. refl;
       hybrid = refl;
       steps = refl;
-      submodules = refl
+      submodules = refl;
     }

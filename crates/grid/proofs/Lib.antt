@@ -7,3 +7,5 @@ pub mod Stepping
 pub mod Examples
 pub mod Deciding
 pub mod Claims
+pub mod Tied
+mod Controls

@@ -1,18 +1,18 @@
 -- The steps of a run: a quotient rounded up by its whole part, counted to one past the limit. Assumes nothing.
-use Prim.Native.Nat.{ℕ, suc, _+_, _-_, _*_, _/_, _%_, _^_, _≤_, _<_, max, min}
-use native.Mathlib.Nat.{mul-one, one-mul, div-add-mod', div-le-of-le-mul, le-of-eq, le-trans, le-div-iff-mul-le, mul-comm, mod-lt, mul-le-mul-right}
+use Prim.Native.Nat.{ℕ, _+_, _-_, _*_, _/_, _%_, _^_, _≤_, _<_, max}
+use native.Mathlib.Nat.{mul-one, div-add-mod', div-le-of-le-mul, le-trans, le-div-iff-mul-le, mul-comm, mul-le-mul-right}
 use native.Mathlib.Omega.{arith}
-use mathlib.Core.Path.{_≡_, refl, sym, ap, _∙_}
+use mathlib.Core.Path.{_≡_, refl, sym, _∙_}
 use mathlib.Core.Logic.{⊎-elim}
 use mathlib.Core.Bool.{Bool, true, false, not, true≢false}
 use borrow.Author.Tests.{lt-ltb, le-ltb, ltb-true, ltb-false, eq-eqb, ne-eqb}
-use lib.Dec.{T, ltb, eqb, le→leb}
+use lib.Dec.{T, ltb, le→leb}
 use lib.IntN.{ℤ, pos}
 use lib.Ieee.{Float, nan, inf, fin, binary64, up, down, ofBits, ofInt, round, lt, toUnsigned, inUnsigned, inFloat, isNan}
 use lib.Ieee.Back.{round-whole, unsigned-back}
 use lib.Ieee.Exact.{HasValue}
 use lib.Ieee.Fits.{down-pos}
-use Rattle.lists.proofs.Counting.{lt-or-le, eq-or-ne}
+use Rattle.lists.proofs.Counting.{lt-or-le}
 use Rattle.float64.specs.Constants.{one}
 use Rattle.float64.specs.Wave.{wholePart}
 use Rattle.float64.proofs.Tests.{lt-nan}
@@ -93,7 +93,7 @@ between (fin false m e) a b =
       above = let h = ltb-true (1 * down e) (m * up e) (sym (one-lt m e) ∙ a) in omega arith;
       most = ltb-false _ _ (sym (million-lt m e) ∙ b);
       up-is = ceiling-is (m * up e) (down e) (down-pos e);
-      whole-is = refl
+      whole-is = refl;
     }
 
 -- past the limit
@@ -110,6 +110,7 @@ past-limit (fin false m e) a =
   where
     apart : {x y : ℕ} → x < y → y ≤ x → ⊥
     apart k l = omega arith
+
     capped : (c : ℕ) → 1000000 < c → mostSteps + 1 ≡ countedTo (max 1 c)
     capped c l = omega arith
 

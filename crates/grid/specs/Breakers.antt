@@ -1,8 +1,8 @@
 -- Breaker times of document 01.4, in milliseconds. Definitions only.
-use Prim.Native.Nat.{ℕ, _^_, _*_, _-_}
+use Prim.Native.Nat.{_^_, _*_, _-_}
 use mathlib.Core.Bool.{cond}
 use mathlib.Core.Path.{_≡_, refl}
-use mathlib.Core.List.{List, [], _∷_, foldl}
+use mathlib.Core.List.{foldl}
 use lib.Dec.{eqb}
 use lib.Ieee.{Float, binary64, ofBits, round, add, mul, div}
 use Rattle.float64.specs.Constants.{decimal}

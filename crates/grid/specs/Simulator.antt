@@ -1,6 +1,6 @@
 -- A grid: what `new` makes, what a part more makes of it, and which parts it has. Definitions only.
-use Prim.Native.Nat.{ℕ, _+_}
-use mathlib.Core.Bool.{Bool, true, false, cond}
+use Prim.Native.Nat.{_+_}
+use mathlib.Core.Bool.{true, false, cond}
 use mathlib.Core.List.{List}
 use lib.Dec.{ltb}
 use lib.ListN.{take, set, replicate}
@@ -38,7 +38,7 @@ blankStation =
       «control_angle_deg» = nought;
       «x_commutation_pu» = nought;
       «arm_inductance_mh» = nought;
-      «sm_capacitance_uf» = nought
+      «sm_capacitance_uf» = nought;
     }
 
 abbrev pub blankCable : DcCable
@@ -58,7 +58,7 @@ newSimulator dt duration =
       «n_cables» = 0;
       «n_breakers» = 0;
       «dt_us» = keptTimeStep dt;
-      «duration_ms» = keptDuration duration
+      «duration_ms» = keptDuration duration;
     }
 
 -- a part put at the end, where there is room; else the grid as it was

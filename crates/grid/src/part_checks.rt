@@ -22,7 +22,10 @@ fn check_topology(topology: ConverterTopology) -> bool
     match topology {
         ConverterTopology::Lcc => true,
         ConverterTopology::TwoLevelVsc => true,
-        ConverterTopology::Mmc { n_submodules } => whole_in_range(ranges::N_SUBMODULES, n_submodules),
+        ConverterTopology::Mmc { n_submodules } => whole_in_range(
+            ranges::N_SUBMODULES,
+            n_submodules,
+        ),
         ConverterTopology::Hybrid => true,
     }
 }
@@ -61,7 +64,10 @@ fn check_breaker_type(breaker_type: DcBreakerType) -> bool
     ensures { λ r. ⌜ r ≡ breakerTypeOk «breaker_type» ⌝ }
 {
     match breaker_type {
-        DcBreakerType::Mechanical { opening_time_ms } => in_range(ranges::OPENING_TIME_MS, opening_time_ms),
+        DcBreakerType::Mechanical { opening_time_ms } => in_range(
+            ranges::OPENING_TIME_MS,
+            opening_time_ms,
+        ),
         DcBreakerType::SolidState {
             turn_off_time_us,
             on_state_loss_pct,

@@ -11,75 +11,202 @@ pub struct Range {
 // A row for each field; the names below are their positions.
 const RANGES: [Range; 32] = [
     // of a station
-    Range { low: 0.0, high: 65535.0 },
-    Range { low: 0.0, high: 65535.0 },
-    Range { low: 1.0, high: 2000.0 },
-    Range { low: 0.0, high: 20000.0 },
-    Range { low: 0.0, high: 1000.0 },
-    Range { low: 0.0, high: 1000.0 },
-    Range { low: 0.0, high: 180.0 },
-    Range { low: 0.0, high: 10.0 },
-    Range { low: 0.0, high: 1000.0 },
-    Range { low: 0.0, high: 100000.0 },
+    Range {
+        low: 0.0,
+        high: 65535.0,
+    },
+    Range {
+        low: 0.0,
+        high: 65535.0,
+    },
+    Range {
+        low: 1.0,
+        high: 2000.0,
+    },
+    Range {
+        low: 0.0,
+        high: 20000.0,
+    },
+    Range {
+        low: 0.0,
+        high: 1000.0,
+    },
+    Range {
+        low: 0.0,
+        high: 1000.0,
+    },
+    Range {
+        low: 0.0,
+        high: 180.0,
+    },
+    Range {
+        low: 0.0,
+        high: 10.0,
+    },
+    Range {
+        low: 0.0,
+        high: 1000.0,
+    },
+    Range {
+        low: 0.0,
+        high: 100000.0,
+    },
     // of a cable
-    Range { low: 0.0, high: 65535.0 },
-    Range { low: 0.0, high: 65535.0 },
-    Range { low: 0.0, high: 65535.0 },
-    Range { low: 0.0, high: 1000.0 },
-    Range { low: 0.0, high: 1000.0 },
-    Range { low: 0.0, high: 1000.0 },
-    Range { low: 0.0, high: 10000.0 },
+    Range {
+        low: 0.0,
+        high: 65535.0,
+    },
+    Range {
+        low: 0.0,
+        high: 65535.0,
+    },
+    Range {
+        low: 0.0,
+        high: 65535.0,
+    },
+    Range {
+        low: 0.0,
+        high: 1000.0,
+    },
+    Range {
+        low: 0.0,
+        high: 1000.0,
+    },
+    Range {
+        low: 0.0,
+        high: 1000.0,
+    },
+    Range {
+        low: 0.0,
+        high: 10000.0,
+    },
     // of a breaker
-    Range { low: 0.0, high: 65535.0 },
-    Range { low: 0.0, high: 65535.0 },
-    Range { low: 0.0, high: 100000.0 },
-    Range { low: 0.0, high: 100000.0 },
-    Range { low: 0.0, high: 100000.0 },
-    Range { low: 0.0, high: 100.0 },
-    Range { low: 0.0, high: 1000.0 },
-    Range { low: 0.0, high: 100000.0 },
+    Range {
+        low: 0.0,
+        high: 65535.0,
+    },
+    Range {
+        low: 0.0,
+        high: 65535.0,
+    },
+    Range {
+        low: 0.0,
+        high: 100000.0,
+    },
+    Range {
+        low: 0.0,
+        high: 100000.0,
+    },
+    Range {
+        low: 0.0,
+        high: 100000.0,
+    },
+    Range {
+        low: 0.0,
+        high: 100.0,
+    },
+    Range {
+        low: 0.0,
+        high: 1000.0,
+    },
+    Range {
+        low: 0.0,
+        high: 100000.0,
+    },
     // of a fault and a sweep order
-    Range { low: 0.0, high: 65535.0 },
-    Range { low: 0.0, high: 1.0 },
-    Range { low: 0.0, high: 1000000.0 },
-    Range { low: 0.0, high: 100000.0 },
-    Range { low: 0.0, high: 10.0 },
+    Range {
+        low: 0.0,
+        high: 65535.0,
+    },
+    Range {
+        low: 0.0,
+        high: 1.0,
+    },
+    Range {
+        low: 0.0,
+        high: 1000000.0,
+    },
+    Range {
+        low: 0.0,
+        high: 100000.0,
+    },
+    Range {
+        low: 0.0,
+        high: 10.0,
+    },
     // of time
-    Range { low: 0.0, high: 1000000.0 },
-    Range { low: 0.0, high: 100000.0 },
+    Range {
+        low: 0.0,
+        high: 1000000.0,
+    },
+    Range {
+        low: 0.0,
+        high: 100000.0,
+    },
 ];
 
 pub const STATION_ID: usize = 0;
+
 pub const N_SUBMODULES: usize = 1;
+
 pub const V_DC_RATED_KV: usize = 2;
+
 pub const P_RATED_MW: usize = 3;
+
 pub const X_TRANSFORMER_PU: usize = 4;
+
 pub const SCR: usize = 5;
+
 pub const CONTROL_ANGLE_DEG: usize = 6;
+
 pub const X_COMMUTATION_PU: usize = 7;
+
 pub const ARM_INDUCTANCE_MH: usize = 8;
+
 pub const SM_CAPACITANCE_UF: usize = 9;
+
 pub const CABLE_ID: usize = 10;
+
 pub const FROM_STATION: usize = 11;
+
 pub const TO_STATION: usize = 12;
+
 pub const R_PER_KM: usize = 13;
+
 pub const L_PER_KM: usize = 14;
+
 pub const C_PER_KM: usize = 15;
+
 pub const LENGTH_KM: usize = 16;
+
 pub const BREAKER_ID: usize = 17;
+
 pub const BREAKER_STATION: usize = 18;
+
 pub const OPENING_TIME_MS: usize = 19;
+
 pub const TURN_OFF_TIME_US: usize = 20;
+
 pub const COMMUTATION_TIME_US: usize = 21;
+
 pub const ON_STATE_LOSS_PCT: usize = 22;
+
 pub const MAX_BREAKING_CURRENT_KA: usize = 23;
+
 pub const ENERGY_ABSORPTION_MJ: usize = 24;
+
 pub const LOCATION_CABLE: usize = 25;
+
 pub const LOCATION_FRACTION: usize = 26;
+
 pub const FAULT_RESISTANCE: usize = 27;
+
 pub const INCEPTION_TIME_MS: usize = 28;
+
 pub const TENTH: usize = 29;
+
 pub const DT_US: usize = 30;
+
 pub const DURATION_MS: usize = 31;
 
 // A NaN is in no range: no comparison with it is true.
@@ -96,5 +223,9 @@ pub fn whole_in_range(field: usize, n: u64) -> bool
     requires { ⌜ field < 32 ⌝ }
     ensures { λ r. ⌜ r ≡ wholeIn (rowOf field) n ⌝ }
 {
-    if n < 9007199254740992 { in_range(field, n as f64) } else { false }
+    if n < 9007199254740992 {
+        in_range(field, n as f64)
+    } else {
+        false
+    }
 }

@@ -30,7 +30,9 @@ pub enum Verdict {
 
 // The numbers of the rules, first to last.
 const FLOW: [u64; 5] = [3, 1, 6, 7, 8];
+
 const SWITCHING: [u64; 7] = [3, 1, 4, 5, 6, 7, 8];
+
 const FAULT: [u64; 9] = [3, 1, 2, 4, 5, 6, 7, 8, 9];
 
 pub fn check_flow(g: DcSwitchingSimulator) -> Verdict

@@ -8,20 +8,30 @@ use crate::simulator::DcSwitchingSimulator;
 use crate::simulator::present;
 
 const LEAST_TIME_STEP_US: f64 = 0.1;
+
 const LEAST_DURATION_MS: f64 = 0.001;
+
 pub const MOST_STEPS: u64 = 1000000;
 
 // What `new` keeps: a time step in its range is raised, and another is left for rule 4 to refuse.
 pub fn kept_time_step(dt_us: f64) -> f64
     ensures { λ r. ⌜ r ≡ keptTimeStep «dt_us» ⌝ }
 {
-    if in_range(ranges::DT_US, dt_us) { float64::max(dt_us, LEAST_TIME_STEP_US) } else { dt_us }
+    if in_range(ranges::DT_US, dt_us) {
+        float64::max(dt_us, LEAST_TIME_STEP_US)
+    } else {
+        dt_us
+    }
 }
 
 pub fn kept_duration(duration_ms: f64) -> f64
     ensures { λ r. ⌜ r ≡ keptDuration «duration_ms» ⌝ }
 {
-    if in_range(ranges::DURATION_MS, duration_ms) { float64::max(duration_ms, LEAST_DURATION_MS) } else { duration_ms }
+    if in_range(ranges::DURATION_MS, duration_ms) {
+        float64::max(duration_ms, LEAST_DURATION_MS)
+    } else {
+        duration_ms
+    }
 }
 
 // The time step that a study uses, in 000's dt_ms.
@@ -91,7 +101,11 @@ pub fn recorded_steps(total_steps: u64) -> u64
     let last = total_steps - 1;
     let interval = record_interval(total_steps);
     let multiples = last / interval + 1;
-    if last % interval == 0 { multiples } else { multiples + 1 }
+    if last % interval == 0 {
+        multiples
+    } else {
+        multiples + 1
+    }
 }
 
 // How many numbers a record has.

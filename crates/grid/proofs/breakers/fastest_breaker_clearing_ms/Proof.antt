@@ -1,7 +1,7 @@
 -- `fastest_breaker_clearing_ms` meets its contract. Assumes nothing.
-use Prim.Native.Nat.{ℕ, _≤_, _<_, _-_, min}
+use Prim.Native.Nat.{_≤_, _-_, min}
 use mathlib.Core.Path.{_≡_, refl, sym, ap, _∙_}
-use mathlib.Core.List.{List, foldl}
+use mathlib.Core.List.{foldl}
 use native.Mathlib.Omega.{arith}
 use lib.ListN.{length, take}
 use borrow.Author.Needs.{needs}
@@ -9,7 +9,6 @@ use borrow.Author.Tests.{eq-eqb, ne-eqb}
 use Rattle.lists.proofs.Folds.{fold-more}
 use Rattle.lists.proofs.Scanning.{take-cut, unmapped}
 use Rattle.grid.specs.Breakers.{faster, largest, fastestOf}
-use Rattle.grid.specs.declared.parts.DcBreaker.{DcBreaker}
 use Rattle.grid.proofs.breakers.fastest_breaker_clearing_ms.Statement.{statement}
 use Rattle.grid.proofs.breakers.fastest_breaker_clearing_ms.Tie as tie
 
@@ -56,9 +55,10 @@ loop-less c = omega arith
 loop-again : tie.Need-loop-again Inv-loop μ-loop
 loop-again c =
     let a = c .before .before .before .before in
-    let s = a .before .before .before in
-    (omega arith,
-      c .min .ensures ∙ rw (c .before .breaker-clearing-time-ms .ensures, a .loop .inv .1) (sym (fold-more faster largest _ (s .args .t1 .breakers) (a .loop .i) (omega (arith, long s)))))
+    let s = a .before .before .before in (
+      omega arith,
+      c .min .ensures ∙ rw (c .before .breaker-clearing-time-ms .ensures, a .loop .inv .1) (sym (fold-more faster largest _ (s .args .t1 .breakers) (a .loop .i) (omega (arith, long s)))),
+    )
 
 returns-2 : tie.Need-returns-2 Inv-loop μ-loop
 unfolding fastestOf
