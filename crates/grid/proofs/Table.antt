@@ -17,7 +17,7 @@ use Rattle.grid.specs.Ranges.{Ends, ends, table, rowOf, realIn, wholeIn}
 use Rattle.grid.specs.declared.ranges.Range.{Range}
 
 abbrev pub asDoubles : Ends → Range
-asDoubles e = record { low = ofInt binary64 (pos (e .low)); high = ofInt binary64 (pos (e .high)) }
+asDoubles e = (ofInt binary64 (pos (e .low)), ofInt binary64 (pos (e .high)))
 
 getD-map : {A B : Type 0} (f : A → B) (xs : List A) (k : ℕ) (d : A) (z : B) → k < length xs → getD (map f xs) k z ≡ f (getD xs k d)
 getD-map f [] k d z h = absurd (not-suc-le-zero h)
@@ -28,13 +28,13 @@ module _ (rows : List Range) (tabled : rows ≡ map asDoubles table) (k : ℕ) (
   row-is : getD rows k z ≡ asDoubles (rowOf k)
   row-is = rw tabled (getD-map asDoubles table k (ends 1 0) z inside)
 
-  pub above-low : le (getD rows k z .low) x ≡ true → le x (getD rows k z .high) ≡ realIn (rowOf k) x
+  pub above-low : le (getD rows k z .0) x ≡ true → le x (getD rows k z .1) ≡ realIn (rowOf k) x
   unfolding realIn
-  above-low e = let f = e in rw row-is (let g : le (asDoubles (rowOf k) .low) x ≡ true = rw row-is at f in rw g)
+  above-low e = let f = e in rw row-is (let g : le (asDoubles (rowOf k) .0) x ≡ true = rw row-is at f in rw g)
 
-  pub below-low : le (getD rows k z .low) x ≡ false → le (getD rows k z .low) x ≡ realIn (rowOf k) x
+  pub below-low : le (getD rows k z .0) x ≡ false → le (getD rows k z .0) x ≡ realIn (rowOf k) x
   unfolding realIn
-  below-low e = let f = e in rw row-is (let g : le (asDoubles (rowOf k) .low) x ≡ false = rw row-is at f in rw g)
+  below-low e = let f = e in rw row-is (let g : le (asDoubles (rowOf k) .0) x ≡ false = rw row-is at f in rw g)
 
 -- ---- whole numbers
 

@@ -3,146 +3,43 @@ ghost use mathlib.Core.Path.{_≡_};
 ghost use Prim.Native.Nat.{_<_};
 ghost use Rattle.grid.specs.Ranges.{rowOf, realIn, wholeIn};
 
-pub struct Range {
-    low: f64,
-    high: f64,
-}
+// The low end and the high end.
+pub struct Range(f64, f64);
 
-// A row for each field; the names below are their positions.
+// A row for each field, at the position that its name has below.
 const RANGES: [Range; 32] = [
-    // of a station
-    Range {
-        low: 0.0,
-        high: 65535.0,
-    },
-    Range {
-        low: 0.0,
-        high: 65535.0,
-    },
-    Range {
-        low: 1.0,
-        high: 2000.0,
-    },
-    Range {
-        low: 0.0,
-        high: 20000.0,
-    },
-    Range {
-        low: 0.0,
-        high: 1000.0,
-    },
-    Range {
-        low: 0.0,
-        high: 1000.0,
-    },
-    Range {
-        low: 0.0,
-        high: 180.0,
-    },
-    Range {
-        low: 0.0,
-        high: 10.0,
-    },
-    Range {
-        low: 0.0,
-        high: 1000.0,
-    },
-    Range {
-        low: 0.0,
-        high: 100000.0,
-    },
-    // of a cable
-    Range {
-        low: 0.0,
-        high: 65535.0,
-    },
-    Range {
-        low: 0.0,
-        high: 65535.0,
-    },
-    Range {
-        low: 0.0,
-        high: 65535.0,
-    },
-    Range {
-        low: 0.0,
-        high: 1000.0,
-    },
-    Range {
-        low: 0.0,
-        high: 1000.0,
-    },
-    Range {
-        low: 0.0,
-        high: 1000.0,
-    },
-    Range {
-        low: 0.0,
-        high: 10000.0,
-    },
-    // of a breaker
-    Range {
-        low: 0.0,
-        high: 65535.0,
-    },
-    Range {
-        low: 0.0,
-        high: 65535.0,
-    },
-    Range {
-        low: 0.0,
-        high: 100000.0,
-    },
-    Range {
-        low: 0.0,
-        high: 100000.0,
-    },
-    Range {
-        low: 0.0,
-        high: 100000.0,
-    },
-    Range {
-        low: 0.0,
-        high: 100.0,
-    },
-    Range {
-        low: 0.0,
-        high: 1000.0,
-    },
-    Range {
-        low: 0.0,
-        high: 100000.0,
-    },
-    // of a fault and a sweep order
-    Range {
-        low: 0.0,
-        high: 65535.0,
-    },
-    Range {
-        low: 0.0,
-        high: 1.0,
-    },
-    Range {
-        low: 0.0,
-        high: 1000000.0,
-    },
-    Range {
-        low: 0.0,
-        high: 100000.0,
-    },
-    Range {
-        low: 0.0,
-        high: 10.0,
-    },
-    // of time
-    Range {
-        low: 0.0,
-        high: 1000000.0,
-    },
-    Range {
-        low: 0.0,
-        high: 100000.0,
-    },
+    Range(0.0, 65535.0), // STATION_ID
+    Range(0.0, 65535.0), // N_SUBMODULES
+    Range(1.0, 2000.0), // V_DC_RATED_KV
+    Range(0.0, 20000.0), // P_RATED_MW
+    Range(0.0, 1000.0), // X_TRANSFORMER_PU
+    Range(0.0, 1000.0), // SCR
+    Range(0.0, 180.0), // CONTROL_ANGLE_DEG
+    Range(0.0, 10.0), // X_COMMUTATION_PU
+    Range(0.0, 1000.0), // ARM_INDUCTANCE_MH
+    Range(0.0, 100000.0), // SM_CAPACITANCE_UF
+    Range(0.0, 65535.0), // CABLE_ID
+    Range(0.0, 65535.0), // FROM_STATION
+    Range(0.0, 65535.0), // TO_STATION
+    Range(0.0, 1000.0), // R_PER_KM
+    Range(0.0, 1000.0), // L_PER_KM
+    Range(0.0, 1000.0), // C_PER_KM
+    Range(0.0, 10000.0), // LENGTH_KM
+    Range(0.0, 65535.0), // BREAKER_ID
+    Range(0.0, 65535.0), // BREAKER_STATION
+    Range(0.0, 100000.0), // OPENING_TIME_MS
+    Range(0.0, 100000.0), // TURN_OFF_TIME_US
+    Range(0.0, 100000.0), // COMMUTATION_TIME_US
+    Range(0.0, 100.0), // ON_STATE_LOSS_PCT
+    Range(0.0, 1000.0), // MAX_BREAKING_CURRENT_KA
+    Range(0.0, 100000.0), // ENERGY_ABSORPTION_MJ
+    Range(0.0, 65535.0), // LOCATION_CABLE
+    Range(0.0, 1.0), // LOCATION_FRACTION
+    Range(0.0, 1000000.0), // FAULT_RESISTANCE
+    Range(0.0, 100000.0), // INCEPTION_TIME_MS
+    Range(0.0, 10.0), // TENTH
+    Range(0.0, 1000000.0), // DT_US
+    Range(0.0, 100000.0), // DURATION_MS
 ];
 
 pub const STATION_ID: usize = 0;
@@ -215,7 +112,7 @@ pub fn in_range(field: usize, x: f64) -> bool
     ensures { λ r. ⌜ r ≡ realIn (rowOf field) x ⌝ }
 {
     let r = RANGES[field];
-    r.low <= x && x <= r.high
+    r.0 <= x && x <= r.1
 }
 
 // A whole number is looked up as the double that it is. From 2^53 up not every one is a double, and no range goes so far.
