@@ -1,5 +1,9 @@
 //! Jobs drawn at random, the same ones from the same seed.
 
+mod grids;
+
+use crate::jobs::FLOATS;
+use crate::plan::End;
 use std::f64::consts::PI;
 
 /// SplitMix64.
@@ -32,15 +36,30 @@ impl Random {
     }
 }
 
-/// The numbers of one job, its own number first.
-pub fn job(number: u64, random: &mut Random) -> Vec<u64> {
+/// A job, its own number first, and the values in it that stand at an end of what a rule accepts.
+pub struct Drawn {
+    pub numbers: Vec<u64>,
+    pub put: Vec<Put>,
+}
+
+/// A value at an end of what a rule accepts.
+pub struct Put {
+    pub field: &'static str,
+    pub rule: u64,
+    pub end: End,
+}
+
+pub fn job(number: u64, random: &mut Random) -> Drawn {
     match number {
-        8 => floats(random),
-        _ => panic!("job {number} is not drawn yet"),
+        FLOATS => Drawn {
+            numbers: floats(random),
+            put: Vec::new(),
+        },
+        _ => grids::job(number, random),
     }
 }
 
-fn floats(random: &mut Random) -> Vec<u64> {
+pub fn floats(random: &mut Random) -> Vec<u64> {
     let operation = random.below(6);
     let a = operand(operation, random);
     // A second operand that meets the first, for `max` and `min`; the other operations ignore it.
@@ -50,7 +69,7 @@ fn floats(random: &mut Random) -> Vec<u64> {
         2 => neighbour(a, random),
         _ => operand(operation, random),
     };
-    vec![8, operation, a.to_bits(), b.to_bits()]
+    vec![FLOATS, operation, a.to_bits(), b.to_bits()]
 }
 
 fn operand(operation: u64, random: &mut Random) -> f64 {

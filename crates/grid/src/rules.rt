@@ -77,10 +77,9 @@ pub fn check_operating_point(station: ConverterStation) -> Verdict
     ensures { λ r. ⌜ numberOf r ≡ pointRefusal station ⌝ }
 {
     if part_checks::check_station(station) {
-        Verdict::Accepted
-    } else {
-        Verdict::StationOutside
+        return Verdict::Accepted;
     }
+    Verdict::StationOutside
 }
 
 // 01's number, 0 for what is accepted.

@@ -79,10 +79,10 @@ impl DcSwitchingSimulator {
         ensures { λ r. ⌜ r ≡ withStation self station ⌝ }
     {
         let mut grid = self;
-        let n = grid.n_stations;
-        if n < 32 {
-            grid.stations[n] = station;
-            grid.n_stations = n + 1;
+        let stations = grid.n_stations;
+        if stations < 32 {
+            grid.stations[stations] = station;
+            grid.n_stations = stations + 1;
             return Added {
                 grid,
                 has_room: true,
@@ -99,10 +99,10 @@ impl DcSwitchingSimulator {
         ensures { λ r. ⌜ r ≡ withCable self cable ⌝ }
     {
         let mut grid = self;
-        let n = grid.n_cables;
-        if n < 64 {
-            grid.cables[n] = cable;
-            grid.n_cables = n + 1;
+        let cables = grid.n_cables;
+        if cables < 64 {
+            grid.cables[cables] = cable;
+            grid.n_cables = cables + 1;
             return Added {
                 grid,
                 has_room: true,
@@ -119,10 +119,10 @@ impl DcSwitchingSimulator {
         ensures { λ r. ⌜ r ≡ withBreaker self breaker ⌝ }
     {
         let mut grid = self;
-        let n = grid.n_breakers;
-        if n < 32 {
-            grid.breakers[n] = breaker;
-            grid.n_breakers = n + 1;
+        let breakers = grid.n_breakers;
+        if breakers < 32 {
+            grid.breakers[breakers] = breaker;
+            grid.n_breakers = breakers + 1;
             return Added {
                 grid,
                 has_room: true,

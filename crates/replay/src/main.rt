@@ -1,7 +1,10 @@
 // Runs the studies on numbers, so that the Rust can be given the same ones and the answers compared line by line. Jobs are
 // read from standard input until it ends; their answers go to standard output.
 mod floats;
+mod grids;
 mod numbers;
+mod studies;
+mod times;
 
 use numbers::Cursor;
 use numbers::ROOM;
@@ -19,7 +22,14 @@ fn answer(lines: &mut [u8; ROOM], answers: &mut [u8; ROOM], c: Cursor) -> After 
         return After::Nothing(c);
     };
     match job {
+        1 => studies::flow(lines, answers, c),
+        2 => studies::lcc_point(lines, answers, c),
+        4 => studies::fault_run(lines, answers, c),
+        5 => studies::switching_run(lines, answers, c),
+        6 => studies::detection(lines, answers, c),
+        7 => studies::sweep(lines, answers, c),
         8 => floats::answer(lines, answers, c),
+        12 => times::answer(lines, answers, c),
         _ => After::Nothing(c),
     }
 }

@@ -23,6 +23,23 @@ pub enum Taken {
     Ended,
 }
 
+// A station has the most numbers of all that are read at once.
+pub const LONGEST: usize = 11;
+
+// Some numbers, in the first places, and the cursor past them. An enum cannot hold an array, so that the reading has ended is a
+// field of its own; the numbers then mean nothing.
+pub struct Row {
+    pub numbers: [u64; LONGEST],
+    pub c: Cursor,
+    pub ended: bool,
+}
+
+// The cursor past some numbers, or the end of what can be read.
+pub enum Skipped {
+    To(Cursor),
+    Ended,
+}
+
 // Nothing is read yet, and nothing answered.
 pub fn start() -> Cursor {
     Cursor {
@@ -39,6 +56,46 @@ pub fn next(lines: &mut [u8; ROOM], c: Cursor) -> Taken {
     }
     read_lines(lines);
     number_at(lines, 0, c.filled)
+}
+
+// The next n numbers.
+pub fn next_row(lines: &mut [u8; ROOM], c: Cursor, n: usize) -> Row
+    requires { do ⌜ n ≤ (← ⟦LONGEST⟧) ⌝ }
+{
+    let mut numbers = [0u64; LONGEST];
+    let mut at = c;
+    let mut i = 0;
+    while i < n {
+        let Taken::Number(x, past) = next(lines, at) else {
+            return Row {
+                numbers,
+                c: at,
+                ended: true,
+            };
+        };
+        numbers[i] = x;
+        at = past;
+        i += 1;
+    }
+    Row {
+        numbers,
+        c: at,
+        ended: false,
+    }
+}
+
+// Passes over n numbers that the answer does not depend on.
+pub fn skip(lines: &mut [u8; ROOM], c: Cursor, n: u64) -> Skipped {
+    let mut at = c;
+    let mut left = n;
+    while left > 0 {
+        left -= 1;
+        let Taken::Number(_, past) = next(lines, at) else {
+            return Skipped::Ended;
+        };
+        at = past;
+    }
+    Skipped::To(at)
 }
 
 // A zero marks where the input ends: no line has one, so what an earlier read left behind it is not taken again.

@@ -1,15 +1,17 @@
 //! Gives the same jobs to a program and to the published Rust, and compares the answers line by line.
 
-use oracle::draw::{self, Random};
-use oracle::jobs::{answer, OPERATIONS};
+use oracle::draw::{self, Drawn, Random};
+use oracle::jobs::{answer, FLOATS, GRID_JOBS, OPERATIONS};
 use oracle::numbers::{alike, write_number, Numbers};
+use oracle::tally::Tally;
 use std::io::{BufReader, BufWriter, Write};
 use std::process::{exit, ChildStdin, Command, Stdio};
 use std::{env, thread};
 
 const USAGE: &str = "\
-compare COUNT SEED PROGRAM [ARGS..]   COUNT float operations drawn at random (job 8)
-compare roots PROGRAM [ARGS..]        the square roots of the whole numbers 0 to 65,535";
+compare COUNT SEED PROGRAM [ARGS..]             COUNT float operations drawn at random (job 8)
+compare jobs LIST COUNT SEED PROGRAM [ARGS..]   COUNT random jobs, of the numbers in LIST in turn, as 1,2,4,5,6,7,12
+compare roots PROGRAM [ARGS..]                  the square roots of the whole numbers 0 to 65,535";
 
 /// How many differences are shown.
 const SHOWN: u64 = 10;
@@ -25,21 +27,14 @@ fn main() {
 }
 
 /// The jobs that the words ask for, and the program with its arguments.
-fn chosen(words: &[String]) -> Option<(Vec<Vec<u64>>, &[String])> {
-    let (jobs, program): (Vec<Vec<u64>>, _) = if words.first()? == "roots" {
-        (
-            (0..=65535)
-                .map(|n| vec![8, 0, f64::from(n).to_bits(), 0])
-                .collect(),
-            &words[1..],
-        )
-    } else {
-        let count: u64 = words[0].parse().ok()?;
-        let mut random = Random::new(words.get(1)?.parse().ok()?);
-        (
-            (0..count).map(|_| draw::job(8, &mut random)).collect(),
-            &words[2..],
-        )
+fn chosen(words: &[String]) -> Option<(Vec<Drawn>, &[String])> {
+    let (jobs, program) = match words.first()?.as_str() {
+        "roots" => (roots(), &words[1..]),
+        "jobs" => {
+            let numbers: Vec<u64> = listed(words.get(1)?)?;
+            (drawn(&numbers, words.get(2)?, words.get(3)?)?, &words[4..])
+        }
+        count => (drawn(&[FLOATS], count, words.get(1)?)?, &words[2..]),
     };
     if program.is_empty() {
         None
@@ -48,8 +43,32 @@ fn chosen(words: &[String]) -> Option<(Vec<Vec<u64>>, &[String])> {
     }
 }
 
+fn roots() -> Vec<Drawn> {
+    (0..=65535)
+        .map(|n| Drawn {
+            numbers: vec![FLOATS, 0, f64::from(n).to_bits(), 0],
+            put: Vec::new(),
+        })
+        .collect()
+}
+
+/// The numbers of jobs that can be drawn, with commas between them.
+fn listed(list: &str) -> Option<Vec<u64>> {
+    let known = |n: &u64| *n == FLOATS || GRID_JOBS.iter().any(|(job, _)| job == n);
+    list.split(',')
+        .map(|word| word.parse().ok().filter(known))
+        .collect()
+}
+
+fn drawn(numbers: &[u64], count: &str, seed: &str) -> Option<Vec<Drawn>> {
+    let count: usize = count.parse().ok()?;
+    let mut random = Random::new(seed.parse().ok()?);
+    let numbers = numbers.iter().cycle().take(count);
+    Some(numbers.map(|&n| draw::job(n, &mut random)).collect())
+}
+
 /// Runs the program on the jobs, and counts the answers that differ.
-fn compare(jobs: &[Vec<u64>], program: &[String]) -> u64 {
+fn compare(jobs: &[Drawn], program: &[String]) -> u64 {
     let mut child = Command::new(&program[0])
         .args(&program[1..])
         .stdin(Stdio::piped())
@@ -65,13 +84,17 @@ fn compare(jobs: &[Vec<u64>], program: &[String]) -> u64 {
     ));
     let mut compared = 0;
     let mut different = 0;
+    let mut tally = Tally::default();
     thread::scope(|scope| {
         // In a thread of its own: a program answers while it still reads.
         scope.spawn(|| feed(jobs, input));
         let mut expected = Vec::new();
         for job in jobs {
             expected.clear();
-            answer(&mut job.iter().copied(), &mut expected).expect("a whole job");
+            answer(&mut job.numbers.iter().copied(), &mut expected).expect("a whole job");
+            if job.numbers[0] != FLOATS {
+                tally.add(job, expected[0]);
+            }
             for (line, &right) in expected.iter().enumerate() {
                 let given = answers.next();
                 compared += 1;
@@ -94,13 +117,16 @@ fn compare(jobs: &[Vec<u64>], program: &[String]) -> u64 {
         println!("the program ended with {ended}");
         different += 1;
     }
+    if !tally.is_empty() {
+        println!("{tally}");
+    }
     println!("{compared} compared, {different} different");
     different
 }
 
-fn feed(jobs: &[Vec<u64>], input: ChildStdin) {
+fn feed(jobs: &[Drawn], input: ChildStdin) {
     let mut input = BufWriter::with_capacity(1 << 16, input);
-    for &n in jobs.iter().flatten() {
+    for &n in jobs.iter().flat_map(|job| &job.numbers) {
         // A program that has ended is seen by the answers that are missing.
         if write_number(&mut input, n).is_err() {
             return;
@@ -109,15 +135,20 @@ fn feed(jobs: &[Vec<u64>], input: ChildStdin) {
     let _ = input.flush();
 }
 
-fn show(job: &[u64], line: usize, right: u64, given: Option<u64>) {
-    match job {
-        &[8, operation, a, b] => println!(
+fn show(job: &Drawn, line: usize, right: u64, given: Option<u64>) {
+    match job.numbers[..] {
+        [FLOATS, operation, a, b] => println!(
             "{} of {a} ({:e}) and {b} ({:e})",
             OPERATIONS[operation as usize],
             f64::from_bits(a),
             f64::from_bits(b)
         ),
-        _ => println!("line {line} of {job:?}"),
+        _ => {
+            println!("line {line} of the answer to {:?}", job.numbers);
+            for put in &job.put {
+                println!("    {}: {}", put.field, put.end.name());
+            }
+        }
     }
     println!("    the Rust: {right} ({:e})", f64::from_bits(right));
     match given {

@@ -123,7 +123,7 @@ fn singles() -> usize {
     let mut expected = Vec::new();
     let (mut different, mut drawn) = (0, 0);
     for _ in 0..SINGLE {
-        let job = draw::job(8, &mut random);
+        let job = draw::floats(&mut random);
         let (operation, a) = (job[1], double(job[2]));
         let given = match operation {
             0 => unsafe { sum_sqrt(a, 0.0, 1) },

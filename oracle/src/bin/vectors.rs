@@ -1,7 +1,8 @@
-//! Prints the fixed float operations (job 8) that the program `replay` is run on.
+//! Prints the fixed jobs that the program `replay` is run on: float operations (job 8), then jobs on grids.
 
 use oracle::draw::Random;
 use oracle::numbers::write_number;
+use oracle::sample;
 use std::collections::HashSet;
 use std::f64::consts::PI;
 use std::io::{self, BufWriter, Write};
@@ -56,6 +57,9 @@ fn main() -> io::Result<()> {
     choices(&mut vectors);
     let mut output = BufWriter::new(io::stdout().lock());
     for n in vectors.list.into_iter().flatten() {
+        write_number(&mut output, n)?;
+    }
+    for n in sample::jobs().into_iter().flatten() {
         write_number(&mut output, n)?;
     }
     output.flush()

@@ -1,0 +1,52 @@
+// Job 12: what a grid says of times. The Rust has these numbers inside its runs; here they can be asked for.
+use crate::After;
+use crate::grids;
+use crate::numbers;
+use crate::numbers::Cursor;
+use crate::numbers::ROOM;
+use grid::DcSwitchingSimulator;
+
+// A grid, which is not refused. The answer: steps, counted to one past the limit, recording interval, recorded steps, length of
+// a record; time step and duration in milliseconds and the fastest clearing time; then each breaker's clearing time.
+pub fn answer(lines: &mut [u8; ROOM], answers: &mut [u8; ROOM], c: Cursor) -> After {
+    let r = grids::read_grid(lines, c);
+    if r.ended {
+        return After::Nothing(c);
+    }
+    let g = r.grid;
+    let c = r.c;
+    let c = append_steps(answers, c, g);
+    let c = append_times(answers, c, g);
+    After::Job(append_clearing_times(answers, c, g))
+}
+
+fn append_steps(answers: &mut [u8; ROOM], c: Cursor, g: DcSwitchingSimulator) -> Cursor {
+    let steps = grid::total_steps(g);
+    let c = numbers::append(answers, c, steps);
+    let c = numbers::append(answers, c, grid::record_interval(steps));
+    let c = numbers::append(answers, c, grid::recorded_steps(steps));
+    numbers::append(answers, c, grid::record_length(g) as u64)
+}
+
+fn append_times(answers: &mut [u8; ROOM], c: Cursor, g: DcSwitchingSimulator) -> Cursor {
+    let c = append_double(answers, c, grid::time_step_ms(g));
+    let c = append_double(answers, c, grid::duration_ms(g));
+    append_double(answers, c, grid::fastest_breaker_clearing_ms(g))
+}
+
+fn append_clearing_times(answers: &mut [u8; ROOM], c: Cursor, g: DcSwitchingSimulator) -> Cursor {
+    let n = grids::cut(g.n_breakers as u64, 32) as usize;
+    let mut at = c;
+    let mut i = 0;
+    while i < n {
+        let b = g.breakers[i];
+        let breaker_type = b.breaker_type;
+        at = append_double(answers, at, grid::breaker_clearing_time_ms(breaker_type));
+        i += 1;
+    }
+    at
+}
+
+fn append_double(answers: &mut [u8; ROOM], c: Cursor, x: f64) -> Cursor {
+    numbers::append(answers, c, float64::to_bits(x))
+}
