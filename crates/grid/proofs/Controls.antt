@@ -1,25 +1,17 @@
 -- Worked examples of the definitions: they are believed, so a wrong clause need break no other proof. The answers were written by hand from document 01.
 use mathlib.Core.Path.{_≡_, refl}
-use mathlib.Core.Bool.{true, false, _||_}
+use mathlib.Core.Bool.{true, false}
 use mathlib.Core.List.{[], _∷_, foldl}
-use Prim.Native.Nat.{ℕ, _-_, _^_}
-use lib.Dec.{eqb}
+use Prim.Native.Nat.{_-_, _^_}
 use lib.Ieee.{nan, inf, binary64, ofBits, ofInt, round, neg, div, lt, le, eq, isNan}
 use Rattle.float64.specs.Constants.{nought, decimal}
 use Rattle.float64.specs.Choice.{maxOf, minOf}
 use Rattle.grid.specs.Ranges as range
 use Rattle.grid.specs.Ranges.{realIn, wholeIn}
-use Rattle.grid.specs.Parts.{topologyOk, stationOk, cableOk, breakerTypeOk, breakerOk, faultOk, orderOk}
 use Rattle.grid.specs.Simulator.{blankStation, blankCable, blankBreaker, newSimulator, withStation, withCable, withBreaker}
 use Rattle.grid.specs.Steps.{keptTimeStep, keptDuration, roundedUp, stepsOf, intervalOf, recorded, countBelow, recordsOf, recordLength}
 use Rattle.grid.specs.Breakers.{clearingTimeOf, faster}
-use Rattle.grid.specs.Rules.{order, first, broken, tooManyParts, timeOutside, tooManySteps, stationOutside, cableOutside, breakerOutside, flowOrder, switchingOrder, faultOrder, flowRefusal, switchingRefusal, faultRefusal, sweepRefusal, pointRefusal}
-use Rattle.grid.specs.declared.parts.ConverterTopology.the-variants.{Mmc}
-use Rattle.grid.specs.declared.parts.DcFaultType.the-variants.{PoleToGround}
 use Rattle.grid.specs.declared.parts.DcBreakerType.the-variants.{Mechanical, SolidState}
-use Rattle.grid.specs.declared.parts.ConverterStation.{ConverterStation}
-use Rattle.grid.specs.declared.parts.DcFaultEvent.{DcFaultEvent}
-use Rattle.grid.specs.declared.parts.SweepOrder.{SweepOrder}
 use Rattle.grid.specs.declared.simulator.DcSwitchingSimulator.{DcSwitchingSimulator}
 
 -- rated kV 1 to 2,000: both ends, the doubles next to them outside, and 01's 1,999.9 and 0.5
@@ -38,15 +30,6 @@ mw-are = (refl, refl, refl, refl)
 ids-are : (wholeIn range.stationId 0 ≡ true) × (wholeIn range.stationId 65535 ≡ true) × (wholeIn range.stationId 65536 ≡ false) × (wholeIn range.toStation (2 ^ 64 - 1) ≡ false)
 unfolding wholeIn
 ids-are = (refl, refl, refl, refl)
-
--- the orders of 01, written out
-orders-are : (flowOrder ≡ 3 ∷ 1 ∷ 6 ∷ 7 ∷ 8 ∷ []) × (switchingOrder ≡ 3 ∷ 1 ∷ 4 ∷ 5 ∷ 6 ∷ 7 ∷ 8 ∷ []) × (faultOrder ≡ 3 ∷ 1 ∷ 2 ∷ 4 ∷ 5 ∷ 6 ∷ 7 ∷ 8 ∷ 9 ∷ [])
-orders-are = (refl, refl, refl)
-
--- 3 before 1, and 0 where none applies
-first-are : (first (λ k. eqb k 1 || eqb k 3) order ≡ 3) × (first (λ k. eqb k 9 || eqb k 10) order ≡ 9) × (first (λ k. false) order ≡ 0)
-unfolding first
-first-are = (refl, refl, refl)
 
 -- what `new` keeps: raised in range, left outside
 kept-are : (keptTimeStep (decimal 5 100) ≡ decimal 1 10) × (keptTimeStep nan ≡ nan) × (keptTimeStep (neg (decimal 1 1)) ≡ neg (decimal 1 1)) × (keptTimeStep (decimal 2000000 1) ≡ decimal 2000000 1)
@@ -74,32 +57,10 @@ fastest-are : foldl faster (decimal 100 1) (record { id = 0; «station_id» = 0;
 unfolding clearingTimeOf minOf isNan lt ofBits round div
 fastest-are = refl
 
--- ---- whole grids: a station of 100 kV, a cable and a breaker of nothing but zeros
-
-station : ConverterStation
-station = record { id = 0; topology = Mmc 65535; «v_dc_rated_kv» = decimal 100 1; «p_rated_mw» = nought; «x_transformer_pu» = nought; scr = nought; «control_angle_deg» = nought; «x_commutation_pu» = nought; «arm_inductance_mh» = nought; «sm_capacitance_uf» = nought }
-
-none : DcSwitchingSimulator
-none = newSimulator (decimal 10 1) (decimal 100 1)
-
-some : DcSwitchingSimulator
-some = withBreaker (withCable (withStation none station .grid) blankCable .grid) blankBreaker .grid
-
-many : DcSwitchingSimulator
-many = record { stations = some .stations; cables = some .cables; breakers = some .breakers; «n_stations» = 0; «n_cables» = 0; «n_breakers» = 33; «dt_us» = some .«dt_us»; «duration_ms» = some .«duration_ms» }
-
-fault : DcFaultEvent
-fault = record { «fault_type» = PoleToGround; «location_cable_id» = 0; «location_fraction» = decimal 11 10; «fault_resistance» = nought; «inception_time_ms» = nought }
-
-tenths : ℕ → ℕ → SweepOrder
-tenths l h = record { «fault_resistance» = nought; «inception_time_ms» = nought; «low_tenth» = l; «high_tenth» = h }
-
-refusals-are : (flowRefusal none ≡ 1) × (flowRefusal some ≡ 0) × (flowRefusal many ≡ 3) × (switchingRefusal some ≡ 0) × (faultRefusal some fault ≡ 9) × (faultRefusal many fault ≡ 3)
-    × (sweepRefusal some (tenths 0 10) ≡ 0) × (sweepRefusal some (tenths 4 3) ≡ 9) × (sweepRefusal some (tenths 0 11) ≡ 9) × (pointRefusal station ≡ 0) × (pointRefusal blankStation ≡ 6)
-unfolding flowRefusal switchingRefusal faultRefusal sweepRefusal pointRefusal first broken tooManyParts timeOutside tooManySteps stationOutside cableOutside breakerOutside none some many fault tenths station stepsOf newSimulator withStation withCable withBreaker keptTimeStep keptDuration realIn wholeIn topologyOk stationOk cableOk breakerTypeOk breakerOk faultOk orderOk le lt eq ofInt ofBits round maxOf isNan div roundedUp
-refusals-are = (refl, refl, refl, refl, refl, refl, refl, refl, refl, refl, refl)
-
 -- time and fault current; one station's two numbers, a cable, a breaker
-lengths-are : (recordLength some ≡ 6) × (recordLength none ≡ 2) × (recordLength many ≡ 34)
-unfolding none some many station newSimulator withStation withCable withBreaker
-lengths-are = (refl, refl, refl)
+one : DcSwitchingSimulator
+one = withBreaker (withCable (withStation (newSimulator (decimal 10 1) (decimal 100 1)) blankStation .grid) blankCable .grid) blankBreaker .grid
+
+lengths-are : (recordLength one ≡ 6) × (one .«n_stations» ≡ 1) × (one .«n_cables» ≡ 1) × (one .«n_breakers» ≡ 1)
+unfolding one newSimulator withStation withCable withBreaker
+lengths-are = (refl, refl, refl, refl)

@@ -6,12 +6,14 @@ use mathlib.Core.Bool.{Bool, true, false, _&&_}
 use mathlib.Core.List.{List, [], _∷_, map}
 use native.Mathlib.Omega.{arith}
 use borrow.Author.Tests.{ltb-true, lt-leb}
-use lib.Dec.{ltb, leb}
+use lib.Dec.{T, ltb, leb}
 use lib.IntN.{pos}
-use lib.ListN.{length, getD}
-use lib.Ieee.{Float, binary64, ofInt, le}
+use lib.ListN.{length, getD, List·getD-eq-default}
+use lib.Ieee.{Float, binary64, ofInt, round, le}
 use lib.Ieee.Back.{round-whole}
+use Rattle.lists.proofs.Counting.{by-test}
 use Rattle.lists.proofs.Scanning.{passed, left, right, and-second}
+use Rattle.float64.proofs.Order.{le-trans-float}
 use Rattle.float64.proofs.Values.{le-values}
 use Rattle.grid.specs.Ranges.{Ends, ends, table, rowOf, realIn, wholeIn}
 use Rattle.grid.specs.declared.ranges.Range.{Range}
@@ -35,6 +37,21 @@ module _ (rows : List Range) (tabled : rows ≡ map asDoubles table) (k : ℕ) (
   pub below-low : le (getD rows k z .0) x ≡ false → le (getD rows k z .0) x ≡ realIn (rowOf k) x
   unfolding realIn
   below-low e = let f = e in rw row-is (let g : le (asDoubles (rowOf k) .0) x ≡ false = rw row-is at f in rw g)
+
+one-above-nought : T (le (ofInt binary64 (pos 1)) (ofInt binary64 (pos 0))) → ⊥
+unfolding le ofInt round
+one-above-nought t = t
+
+-- past the table there is nothing to accept
+pub past-rows : (k : ℕ) (x : Float) → 32 ≤ k → false ≡ realIn (rowOf k) x
+unfolding realIn
+past-rows k x h =
+    rw (List·getD-eq-default table (ends 1 0) h)
+    (by-test (le (ofInt binary64 (pos 1)) x)
+    (λ a. by-test (le x (ofInt binary64 (pos 0)))
+    (λ b. absurd (one-above-nought (le-trans-float (ofInt binary64 (pos 1)) x (ofInt binary64 (pos 0)) (rw a tt) (rw b tt))))
+    (λ b. sym (and-second (le (ofInt binary64 (pos 1)) x) (le x (ofInt binary64 (pos 0))) b)))
+    (λ a. rw a))
 
 -- ---- whole numbers
 

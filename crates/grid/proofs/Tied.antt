@@ -1,86 +1,34 @@
 -- The claims speak of what the code returns: what a caller learns from a contract in src/, as Rattle reads its clauses, gives the claim of the result, and nothing is asked of the caller.
 -- Assumes nothing.
-use mathlib.Core.Path.{_≡_, sym, _∙_, subst}
-use mathlib.Core.Logic.{_↔_}
-use mathlib.Core.Bool.{true, false, not}
-use Prim.Native.Nat.{ℕ}
+use mathlib.Core.Path.{_≡_, _∙_}
+use mathlib.Core.Bool.{false}
 use contract.Lifetimes.{Lfts}
 use borrow.Fn.World.{ArgsD, ResD}
 use borrow.Fn.Kinds.{endedOf}
 use denote.Triple.Clauses.{AtExit}
-use Rattle.grid.specs.Parts.{stationOk, faultOk, orderOk}
+use lib.Ieee.{nan}
+use Rattle.grid.specs.Ranges.{rowOf}
 use Rattle.grid.specs.Steps.{stepsOf}
-use Rattle.grid.specs.Rules.{numberOf, broken, flowOrder, detectionOrder, switchingOrder, faultOrder, switchingRefusal}
-use Rattle.grid.specs.Claims.{Decides}
-use Rattle.grid.proofs.Claims.{refusal-claims, step-claims}
-use Rattle.grid.proofs.rules.check_flow as check-flow-contract
-use Rattle.grid.proofs.rules.check_flow.Kinds as check-flow-kinds
-use Rattle.grid.proofs.rules.check_flow.Reads as check-flow-reads
-use Rattle.grid.proofs.rules.check_detection as check-detection-contract
-use Rattle.grid.proofs.rules.check_detection.Kinds as check-detection-kinds
-use Rattle.grid.proofs.rules.check_detection.Reads as check-detection-reads
-use Rattle.grid.proofs.rules.check_switching as check-switching-contract
-use Rattle.grid.proofs.rules.check_switching.Kinds as check-switching-kinds
-use Rattle.grid.proofs.rules.check_switching.Reads as check-switching-reads
-use Rattle.grid.proofs.rules.check_fault as check-fault-contract
-use Rattle.grid.proofs.rules.check_fault.Kinds as check-fault-kinds
-use Rattle.grid.proofs.rules.check_fault.Reads as check-fault-reads
-use Rattle.grid.proofs.rules.check_sweep as check-sweep-contract
-use Rattle.grid.proofs.rules.check_sweep.Kinds as check-sweep-kinds
-use Rattle.grid.proofs.rules.check_sweep.Reads as check-sweep-reads
-use Rattle.grid.proofs.rules.check_operating_point as check-operating-point-contract
-use Rattle.grid.proofs.rules.check_operating_point.Kinds as check-operating-point-kinds
-use Rattle.grid.proofs.rules.check_operating_point.Reads as check-operating-point-reads
+use Rattle.grid.specs.Claims.{Steps}
+use Rattle.grid.proofs.Claims.{range-claims, step-claims}
+use Rattle.grid.proofs.ranges.in_range as in-range-contract
+use Rattle.grid.proofs.ranges.in_range.Kinds as in-range-kinds
+use Rattle.grid.proofs.ranges.in_range.Reads as in-range-reads
 use Rattle.grid.proofs.steps.total_steps as total-steps-contract
 use Rattle.grid.proofs.steps.total_steps.Kinds as total-steps-kinds
 use Rattle.grid.proofs.steps.total_steps.Reads as total-steps-reads
 
-module _ (κs : Lfts 0) (a : ArgsD check-flow-contract.signature κs) (r : ResD check-flow-contract.signature κs) (e : AtExit (endedOf 0 check-flow-kinds.ps check-flow-kinds.r) κs) where
-  pub check-flow-any : check-flow-reads.Asked κs a
-  check-flow-any = tt
+module _ (κs : Lfts 0) (a : ArgsD in-range-contract.signature κs) (r : ResD in-range-contract.signature κs) (e : AtExit (endedOf 0 in-range-kinds.ps in-range-kinds.r) κs) where
+  pub in-range-any : in-range-reads.Asked κs a
+  in-range-any = tt
 
-  pub check-flow-decides : check-flow-reads.Learnt κs a r e → Decides (numberOf r) (broken (a .0) false) flowOrder
-  check-flow-decides h = subst (λ (k : ℕ). Decides k (broken (a .0) false) flowOrder) (sym h) (refusal-claims .flow (a .0))
-
-module _ (κs : Lfts 0) (a : ArgsD check-detection-contract.signature κs) (r : ResD check-detection-contract.signature κs) (e : AtExit (endedOf 0 check-detection-kinds.ps check-detection-kinds.r) κs) where
-  pub check-detection-any : check-detection-reads.Asked κs a
-  check-detection-any = tt
-
-  pub check-detection-decides : check-detection-reads.Learnt κs a r e → Decides (numberOf r) (broken (a .0) false) detectionOrder
-  check-detection-decides h = subst (λ (k : ℕ). Decides k (broken (a .0) false) detectionOrder) (sym h) (refusal-claims .detection (a .0))
-
-module _ (κs : Lfts 0) (a : ArgsD check-switching-contract.signature κs) (r : ResD check-switching-contract.signature κs) (e : AtExit (endedOf 0 check-switching-kinds.ps check-switching-kinds.r) κs) where
-  pub check-switching-any : check-switching-reads.Asked κs a
-  check-switching-any = tt
-
-  pub check-switching-decides : check-switching-reads.Learnt κs a r e → Decides (numberOf r) (broken (a .0) false) switchingOrder
-  check-switching-decides h = subst (λ (k : ℕ). Decides k (broken (a .0) false) switchingOrder) (sym h) (refusal-claims .switching (a .0))
-
-module _ (κs : Lfts 0) (a : ArgsD check-fault-contract.signature κs) (r : ResD check-fault-contract.signature κs) (e : AtExit (endedOf 0 check-fault-kinds.ps check-fault-kinds.r) κs) where
-  pub check-fault-any : check-fault-reads.Asked κs a
-  check-fault-any = tt
-
-  pub check-fault-decides : check-fault-reads.Learnt κs a r e → Decides (numberOf r) (broken (a .0) (not (faultOk (a .1 .0)))) faultOrder
-  check-fault-decides h = subst (λ (k : ℕ). Decides k (broken (a .0) (not (faultOk (a .1 .0)))) faultOrder) (sym h) (refusal-claims .fault (a .0) (a .1 .0))
-
-module _ (κs : Lfts 0) (a : ArgsD check-sweep-contract.signature κs) (r : ResD check-sweep-contract.signature κs) (e : AtExit (endedOf 0 check-sweep-kinds.ps check-sweep-kinds.r) κs) where
-  pub check-sweep-any : check-sweep-reads.Asked κs a
-  check-sweep-any = tt
-
-  pub check-sweep-decides : check-sweep-reads.Learnt κs a r e → Decides (numberOf r) (broken (a .0) (not (orderOk (a .1 .0)))) faultOrder
-  check-sweep-decides h = subst (λ (k : ℕ). Decides k (broken (a .0) (not (orderOk (a .1 .0)))) faultOrder) (sym h) (refusal-claims .sweep (a .0) (a .1 .0))
-
-module _ (κs : Lfts 0) (a : ArgsD check-operating-point-contract.signature κs) (r : ResD check-operating-point-contract.signature κs) (e : AtExit (endedOf 0 check-operating-point-kinds.ps check-operating-point-kinds.r) κs) where
-  pub check-operating-point-any : check-operating-point-reads.Asked κs a
-  check-operating-point-any = tt
-
-  pub check-operating-point-decides : check-operating-point-reads.Learnt κs a r e → ((numberOf r ≡ 6) ↔ (stationOk (a .0) ≡ false)) × ((numberOf r ≡ 0) ↔ (stationOk (a .0) ≡ true))
-  check-operating-point-decides h = subst (λ (k : ℕ). ((k ≡ 6) ↔ (stationOk (a .0) ≡ false)) × ((k ≡ 0) ↔ (stationOk (a .0) ≡ true))) (sym h) (refusal-claims .point-refused (a .0), refusal-claims .point-accepted (a .0))
+  pub nan-refused : in-range-reads.Learnt κs a r e → a .1 .0 ≡ nan → r ≡ false
+  nan-refused h n = rw n at h ∙ range-claims .nan-outside (rowOf (a .0))
 
 module _ (κs : Lfts 0) (a : ArgsD total-steps-contract.signature κs) (r : ResD total-steps-contract.signature κs) (e : AtExit (endedOf 0 total-steps-kinds.ps total-steps-kinds.r) κs) where
   pub total-steps-any : total-steps-reads.Asked κs a
   total-steps-any = tt
 
-  -- of what is accepted, N itself
-  pub total-steps-are : total-steps-reads.Learnt κs a r e → switchingRefusal (a .0) ≡ 0 → r ≡ stepsOf (a .0)
-  total-steps-are h k = h ∙ step-claims .counted (stepsOf (a .0)) (step-claims .switching (a .0) k)
+  -- up to the limit, N itself
+  pub total-steps-are : total-steps-reads.Learnt κs a r e → Steps (stepsOf (a .0)) → r ≡ stepsOf (a .0)
+  total-steps-are h k = h ∙ step-claims .counted (stepsOf (a .0)) k

@@ -3,6 +3,5 @@ pub mod Parts
 pub mod Simulator
 pub mod Steps
 pub mod Breakers
-pub mod Rules
 pub mod Claims
 pub mod Examples

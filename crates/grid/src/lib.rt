@@ -1,18 +1,13 @@
-// A grid, an event and an order by value, with the names of document 000, and what every study asks of them first: which rule
-// of document 01 they break, how many steps a run has and which of them are recorded, how fast the breakers clear.
+// A grid, an event and an order by value, with the names of document 000; the table of accepted values; how many steps a run has
+// and which of them are recorded; how fast the breakers clear.
 mod breakers;
-mod part_checks;
 mod parts;
-mod ranges;
-mod rules;
+pub mod ranges;
 mod simulator;
 mod steps;
 
 pub use breakers::breaker_clearing_time_ms;
 pub use breakers::fastest_breaker_clearing_ms;
-pub use part_checks::first_bad_breaker;
-pub use part_checks::first_bad_cable;
-pub use part_checks::first_bad_station;
 pub use parts::ConverterStation;
 pub use parts::ConverterTopology;
 pub use parts::DcBreaker;
@@ -22,16 +17,10 @@ pub use parts::DcFaultEvent;
 pub use parts::DcFaultType;
 pub use parts::SweepOrder;
 pub use parts::counted_submodules;
-pub use rules::Verdict;
-pub use rules::check_detection;
-pub use rules::check_fault;
-pub use rules::check_flow;
-pub use rules::check_operating_point;
-pub use rules::check_sweep;
-pub use rules::check_switching;
-pub use rules::number;
 pub use simulator::Added;
 pub use simulator::DcSwitchingSimulator;
+pub use simulator::present;
+pub use steps::MOST_STEPS;
 pub use steps::duration_ms;
 pub use steps::is_recorded;
 pub use steps::record_interval;

@@ -1,6 +1,5 @@
 // The accepted values: one table of lows and highs, ends included, and the one check that reads it.
 ghost use mathlib.Core.Path.{_≡_};
-ghost use Prim.Native.Nat.{_<_};
 ghost use Rattle.grid.specs.Ranges.{rowOf, realIn, wholeIn};
 
 // The low end and the high end.
@@ -106,23 +105,23 @@ pub const DT_US: usize = 30;
 
 pub const DURATION_MS: usize = 31;
 
-// A NaN is in no range: no comparison with it is true.
+// A NaN is in no range: no comparison with it is true. Past the last row there is nothing to accept.
 pub fn in_range(field: usize, x: f64) -> bool
-    requires { ⌜ field < 32 ⌝ }
     ensures { λ r. ⌜ r ≡ realIn (rowOf field) x ⌝ }
 {
-    let r = RANGES[field];
-    r.0 <= x && x <= r.1
+    if field < 32 {
+        let r = RANGES[field];
+        return r.0 <= x && x <= r.1;
+    }
+    false
 }
 
 // A whole number is looked up as the double that it is. From 2^53 up not every one is a double, and no range goes so far.
 pub fn whole_in_range(field: usize, n: u64) -> bool
-    requires { ⌜ field < 32 ⌝ }
     ensures { λ r. ⌜ r ≡ wholeIn (rowOf field) n ⌝ }
 {
-    if n < 9007199254740992 {
-        in_range(field, n as f64)
-    } else {
-        false
+    if n >= 9007199254740992 {
+        return false;
     }
+    in_range(field, n as f64)
 }

@@ -17,21 +17,17 @@ pub const MOST_STEPS: u64 = 1000000;
 pub fn kept_time_step(dt_us: f64) -> f64
     ensures { λ r. ⌜ r ≡ keptTimeStep «dt_us» ⌝ }
 {
-    if in_range(ranges::DT_US, dt_us) {
-        float64::max(dt_us, LEAST_TIME_STEP_US)
-    } else {
-        dt_us
-    }
+    let raised = float64::max(dt_us, LEAST_TIME_STEP_US);
+    let inside = in_range(ranges::DT_US, dt_us);
+    if inside { raised } else { dt_us }
 }
 
 pub fn kept_duration(duration_ms: f64) -> f64
     ensures { λ r. ⌜ r ≡ keptDuration «duration_ms» ⌝ }
 {
-    if in_range(ranges::DURATION_MS, duration_ms) {
-        float64::max(duration_ms, LEAST_DURATION_MS)
-    } else {
-        duration_ms
-    }
+    let raised = float64::max(duration_ms, LEAST_DURATION_MS);
+    let inside = in_range(ranges::DURATION_MS, duration_ms);
+    if inside { raised } else { duration_ms }
 }
 
 // The time step that a study uses, in 000's dt_ms.

@@ -12,7 +12,7 @@ use grid::DcFaultEvent;
 use grid::DcFaultType;
 use grid::DcSwitchingSimulator;
 use grid::SweepOrder;
-use grid::Verdict;
+use rules::Verdict;
 
 enum FaultRead {
     Fault(DcFaultEvent, Cursor),
@@ -32,7 +32,7 @@ pub fn flow(lines: &mut [u8; ROOM], answers: &mut [u8; ROOM], c: Cursor) -> Afte
     }
     let g = r.grid;
     let c = r.c;
-    refusal(answers, c, grid::check_flow(g))
+    refusal(answers, c, rules::check_flow(g))
 }
 
 // Job 2: a station and a current.
@@ -43,7 +43,7 @@ pub fn lcc_point(lines: &mut [u8; ROOM], answers: &mut [u8; ROOM], c: Cursor) ->
     let Skipped::To(c) = numbers::skip(lines, c, 1) else {
         return After::Nothing(c);
     };
-    refusal(answers, c, grid::check_operating_point(station))
+    refusal(answers, c, rules::check_operating_point(station))
 }
 
 // Job 4: a grid, a fault and calls.
@@ -60,7 +60,7 @@ pub fn fault_run(lines: &mut [u8; ROOM], answers: &mut [u8; ROOM], c: Cursor) ->
     let Skipped::To(c) = skip_calls(lines, c) else {
         return After::Nothing(c);
     };
-    refusal(answers, c, grid::check_fault(g, fault))
+    refusal(answers, c, rules::check_fault(g, fault))
 }
 
 // Job 5: a grid, a breaker number, whether it opens, and calls. Any breaker number is taken.
@@ -77,7 +77,7 @@ pub fn switching_run(lines: &mut [u8; ROOM], answers: &mut [u8; ROOM], c: Cursor
     let Skipped::To(c) = skip_calls(lines, c) else {
         return After::Nothing(c);
     };
-    refusal(answers, c, grid::check_switching(g))
+    refusal(answers, c, rules::check_switching(g))
 }
 
 // Job 6: a grid and two states of it.
@@ -94,7 +94,7 @@ pub fn detection(lines: &mut [u8; ROOM], answers: &mut [u8; ROOM], c: Cursor) ->
     let Skipped::To(c) = skip_state(lines, c, g) else {
         return After::Nothing(c);
     };
-    refusal(answers, c, grid::check_detection(g))
+    refusal(answers, c, rules::check_detection(g))
 }
 
 // Job 7: a grid, an order and calls.
@@ -111,11 +111,11 @@ pub fn sweep(lines: &mut [u8; ROOM], answers: &mut [u8; ROOM], c: Cursor) -> Aft
     let Skipped::To(c) = skip_calls(lines, c) else {
         return After::Nothing(c);
     };
-    refusal(answers, c, grid::check_sweep(g, order))
+    refusal(answers, c, rules::check_sweep(g, order))
 }
 
 fn refusal(answers: &mut [u8; ROOM], c: Cursor, v: Verdict) -> After {
-    After::Job(numbers::append(answers, c, grid::number(v)))
+    After::Job(numbers::append(answers, c, rules::number(v)))
 }
 
 // Type, cable, fraction, resistance, inception.

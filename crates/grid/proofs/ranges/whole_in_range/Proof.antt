@@ -8,19 +8,18 @@ use Rattle.grid.proofs.Table.{whole-real, whole-past}
 use Rattle.grid.proofs.ranges.whole_in_range.Statement.{statement}
 use Rattle.grid.proofs.ranges.whole_in_range.Tie as tie
 
+returns : tie.Need-returns
+returns c = whole-past (c .before .args .field) _ (c .if1 .taken)
+
 int-to-float-in-range : tie.Need-int-to-float-in-range
 unfolding inFloat
-int-to-float-in-range c = le→leb _ _ (le-of-lt (c .before .if1 .taken))
+int-to-float-in-range c = le→leb _ _ (le-of-lt (c .before .if1 .left))
 
 in-range-requires : tie.Need-in-range-requires
 in-range-requires c κs = search needs
 
-returns : tie.Need-returns
-returns c = c .in-range .ensures ∙ whole-real (c .before .before .before .args .field) _ (c .before .before .if1 .taken)
-
 returns-2 : tie.Need-returns-2
-returns-2 c = whole-past (c .before .args .field) _ (c .if1 .left)
+returns-2 c = c .in-range .ensures ∙ whole-real (c .before .before .before .args .field) _ (c .before .before .if1 .left)
 
 pub whole-in-range-spec : {M : Type 1} → statement M
-whole-in-range-spec =
-    tie.close (tie.spec int-to-float-in-range in-range-requires returns returns-2)
+whole-in-range-spec = tie.close (tie.spec returns int-to-float-in-range in-range-requires returns-2)

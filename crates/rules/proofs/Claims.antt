@@ -1,0 +1,102 @@
+-- The claims of specs/Claims. Assumes nothing.
+use Prim.Native.Nat.{ℕ, _-_, _≤_}
+use native.Mathlib.Omega.{arith}
+use mathlib.Core.Path.{_≡_, refl, sym, ap, _∙_}
+use mathlib.Core.Logic.{_↔_}
+use mathlib.Core.Bool.{Bool, true, false, not}
+use mathlib.Core.List.{List, [], _∷_}
+use borrow.Author.Tests.{ltb-false}
+use lib.Dec.{ltb}
+use lib.ListN.{getD}
+use Rattle.lists.specs.Scans.{every}
+use Rattle.lists.proofs.Counting.{by-test}
+use Rattle.lists.proofs.Scanning.{passed, passing-short}
+use Rattle.rules.specs.PartChecks.{stationOk, cableOk, breakerOk, faultOk, orderOk}
+use Rattle.grid.specs.Simulator.{stationsOf, cablesOf, breakersOf}
+use Rattle.grid.specs.Steps.{stepsOf, mostSteps}
+use Rattle.rules.specs.Studies.{broken, tooManySteps, switchingOrder, faultOrder, stationOutside, cableOutside, breakerOutside, flowRefusal, detectionRefusal, switchingRefusal, faultRefusal, sweepRefusal, pointRefusal, numberOf}
+use Rattle.rules.specs.Claims.{RefusalClaims, PositionClaims, AcceptedClaims}
+use Rattle.grid.specs.Claims.{Steps}
+use Rattle.grid.specs.declared.parts.ConverterStation.{ConverterStation}
+use Rattle.grid.specs.declared.simulator.DcSwitchingSimulator.{DcSwitchingSimulator}
+use Rattle.rules.specs.declared.studies.Verdict.{Verdict}
+use Rattle.rules.specs.declared.studies.Verdict.the-variants.{Accepted, NoStation, NoCable, TooManyParts, TimeOutside, TooManySteps, StationOutside, CableOutside, BreakerOutside, EventOutside}
+use Rattle.rules.proofs.Deciding.{decides, not-true}
+
+-- ---- refusals
+
+-- the answer of a number
+answerOf : ℕ → Verdict
+answerOf n = getD (Accepted ∷ NoStation ∷ NoCable ∷ TooManyParts ∷ TimeOutside ∷ TooManySteps ∷ StationOutside ∷ CableOutside ∷ BreakerOutside ∷ EventOutside ∷ []) n Accepted
+
+answered : (v : Verdict) → answerOf (numberOf v) ≡ v
+unfolding answerOf numberOf
+answered Accepted = refl
+answered NoStation = refl
+answered NoCable = refl
+answered TooManyParts = refl
+answered TimeOutside = refl
+answered TooManySteps = refl
+answered StationOutside = refl
+answered CableOutside = refl
+answered BreakerOutside = refl
+answered EventOutside = refl
+
+point-six : (s : ConverterStation) → (pointRefusal s ≡ 6) ↔ (stationOk s ≡ false)
+unfolding pointRefusal
+point-six s = (
+  (λ e. by-test (stationOk s) (λ b. absurd (let q : 0 ≡ 6 = rw b at e in omega arith)) (λ b. b)),
+  (λ b. rw b),
+)
+
+point-nought : (s : ConverterStation) → (pointRefusal s ≡ 0) ↔ (stationOk s ≡ true)
+unfolding pointRefusal
+point-nought s = (
+  (λ e. by-test (stationOk s) (λ b. b) (λ b. absurd (let q : 6 ≡ 0 = rw b at e in omega arith))),
+  (λ b. rw b),
+)
+
+pub refusal-claims : RefusalClaims
+unfolding flowRefusal detectionRefusal switchingRefusal faultRefusal sweepRefusal
+refusal-claims =
+    record {
+      flow = λ g. decides (broken g false) _ refl refl;
+      detection = λ g. decides (broken g false) _ refl refl;
+      switching = λ g. decides (broken g false) _ refl refl;
+      fault = λ g f. decides (broken g (not (faultOk f))) _ refl refl;
+      sweep = λ g o. decides (broken g (not (orderOk o))) _ refl refl;
+      point-refused = point-six;
+      point-accepted = point-nought;
+      known = λ v w e. sym (answered v) ∙ ap answerOf e ∙ answered w;
+    }
+
+-- ---- positions
+
+pub position-claims : PositionClaims
+unfolding stationOutside cableOutside breakerOutside
+position-claims =
+    record {
+      station = λ g. sym (passing-short stationOk (stationsOf g));
+      cable = λ g. sym (passing-short cableOk (cablesOf g));
+      breaker = λ g. sym (passing-short breakerOk (breakersOf g));
+    }
+
+-- ---- steps
+
+-- an order that has rule 5 accepts no more steps than the limit
+few-steps : (g : DcSwitchingSimulator) (e : Bool) → not (broken g e 5) ≡ true → Steps (stepsOf g)
+unfolding broken tooManySteps stepsOf
+few-steps g e h = let l : stepsOf g ≤ mostSteps = ltb-false mostSteps (stepsOf g) (not-true (ltb mostSteps (stepsOf g)) h) in (omega arith, l)
+
+-- rule 5 among the rules that are not broken, i its place in the order
+fifth : (g : DcSwitchingSimulator) (e : Bool) (order : List ℕ) (i : ℕ) → getD order i 0 ≡ 5 → every (λ j. not (broken g e j)) order ≡ true → Steps (stepsOf g)
+unfolding broken
+fifth g e order i five p = few-steps g e (rw five at (passed (λ j. not (broken g e j)) 0 order i refl p))
+
+pub accepted-claims : AcceptedClaims
+accepted-claims =
+    record {
+      switching = λ g h. fifth g false switchingOrder 3 refl (refusal-claims .switching g .accepted .0 h);
+      fault = λ g f h. fifth g (not (faultOk f)) faultOrder 4 refl (refusal-claims .fault g f .accepted .0 h);
+      sweep = λ g o h. fifth g (not (orderOk o)) faultOrder 4 refl (refusal-claims .sweep g o .accepted .0 h);
+    }

@@ -1,0 +1,6 @@
+pub mod Numbered
+pub mod Refused
+pub mod Deciding
+pub mod Claims
+pub mod Tied
+mod Controls

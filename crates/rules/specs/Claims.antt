@@ -1,0 +1,47 @@
+-- What document 01 says of refusals in words, and what a reader expects beside the definitions. The proofs are in proofs/Claims.antt.
+use mathlib.Core.Path.{_≡_}
+use mathlib.Core.Logic.{_↔_}
+use mathlib.Core.Bool.{Bool, true, false, not}
+use mathlib.Core.List.{List, _∷_, _++_}
+use Prim.Native.Nat.{ℕ}
+use lib.Dec.{ltb}
+use lib.ListN.{length}
+use Rattle.lists.specs.Scans.{every, passing}
+use Rattle.grid.specs.Simulator.{stationsOf, cablesOf, breakersOf}
+use Rattle.grid.specs.Steps.{stepsOf}
+use Rattle.grid.specs.Claims.{Steps}
+use Rattle.rules.specs.PartChecks.{stationOk, cableOk, breakerOk, faultOk, orderOk}
+use Rattle.rules.specs.Studies.{broken, stationOutside, cableOutside, breakerOutside, flowOrder, detectionOrder, switchingOrder, faultOrder, flowRefusal, detectionRefusal, switchingRefusal, faultRefusal, sweepRefusal, pointRefusal, numberOf}
+use Rattle.grid.specs.declared.parts.ConverterStation.{ConverterStation}
+use Rattle.grid.specs.declared.parts.DcFaultEvent.{DcFaultEvent}
+use Rattle.grid.specs.declared.parts.SweepOrder.{SweepOrder}
+use Rattle.grid.specs.declared.simulator.DcSwitchingSimulator.{DcSwitchingSimulator}
+use Rattle.rules.specs.declared.studies.Verdict.{Verdict}
+
+-- "the first that applies is returned": a number is returned exactly when its rule is broken and none before it in the order is, and 0 exactly when none is
+pub record Decides (answer : ℕ) (breaks : ℕ → Bool) (order : List ℕ) : Type 0 where
+  pub refused : (before after : List ℕ) (k : ℕ) → order ≡ before ++ (k ∷ after) → (answer ≡ k) ↔ ((breaks k ≡ true) × (every (λ j. not (breaks j)) before ≡ true))
+  pub accepted : (answer ≡ 0) ↔ (every (λ j. not (breaks j)) order ≡ true)
+
+pub record RefusalClaims : Type 0 where
+  pub flow : (g : DcSwitchingSimulator) → Decides (flowRefusal g) (broken g false) flowOrder
+  pub detection : (g : DcSwitchingSimulator) → Decides (detectionRefusal g) (broken g false) detectionOrder
+  pub switching : (g : DcSwitchingSimulator) → Decides (switchingRefusal g) (broken g false) switchingOrder
+  pub fault : (g : DcSwitchingSimulator) (f : DcFaultEvent) → Decides (faultRefusal g f) (broken g (not (faultOk f))) faultOrder
+  pub sweep : (g : DcSwitchingSimulator) (o : SweepOrder) → Decides (sweepRefusal g o) (broken g (not (orderOk o))) faultOrder
+  pub point-refused : (s : ConverterStation) → (pointRefusal s ≡ 6) ↔ (stationOk s ≡ false)
+  pub point-accepted : (s : ConverterStation) → (pointRefusal s ≡ 0) ↔ (stationOk s ≡ true)
+  -- an answer is known by its number
+  pub known : (v w : Verdict) → numberOf v ≡ numberOf w → v ≡ w
+
+-- a rule on parts is broken exactly where the position of the first bad part lies before their end
+pub record PositionClaims : Type 0 where
+  pub station : (g : DcSwitchingSimulator) → stationOutside g ≡ ltb (passing stationOk (stationsOf g)) (length (stationsOf g))
+  pub cable : (g : DcSwitchingSimulator) → cableOutside g ≡ ltb (passing cableOk (cablesOf g)) (length (cablesOf g))
+  pub breaker : (g : DcSwitchingSimulator) → breakerOutside g ≡ ltb (passing breakerOk (breakersOf g)) (length (breakersOf g))
+
+-- what is accepted has from 1 to 1,000,000 steps
+pub record AcceptedClaims : Type 0 where
+  pub switching : (g : DcSwitchingSimulator) → switchingRefusal g ≡ 0 → Steps (stepsOf g)
+  pub fault : (g : DcSwitchingSimulator) (f : DcFaultEvent) → faultRefusal g f ≡ 0 → Steps (stepsOf g)
+  pub sweep : (g : DcSwitchingSimulator) (o : SweepOrder) → sweepRefusal g o ≡ 0 → Steps (stepsOf g)

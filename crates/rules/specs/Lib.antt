@@ -1,0 +1,3 @@
+pub mod PartChecks
+pub mod Studies
+pub mod Claims
