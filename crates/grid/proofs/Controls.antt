@@ -1,17 +1,13 @@
 -- Worked examples of the definitions: they are believed, so a wrong clause need break no other proof. The answers were written by hand from document 01.
 use mathlib.Core.Path.{_≡_, refl}
 use mathlib.Core.Bool.{true, false}
-use mathlib.Core.List.{[], _∷_, foldl}
 use Prim.Native.Nat.{_-_, _^_}
-use lib.Ieee.{nan, inf, binary64, ofBits, ofInt, round, neg, div, lt, le, eq, isNan}
+use lib.Ieee.{nan, inf, binary64, ofBits, ofInt, round, neg, lt, le, eq, isNan}
 use Rattle.float64.specs.Constants.{nought, decimal}
-use Rattle.float64.specs.Choice.{maxOf, minOf}
+use Rattle.float64.specs.Choice.{maxOf}
 use Rattle.grid.specs.Ranges as range
 use Rattle.grid.specs.Ranges.{realIn, wholeIn}
-use Rattle.grid.specs.Simulator.{blankStation, blankCable, blankBreaker, newSimulator, withStation, withCable, withBreaker}
-use Rattle.grid.specs.Steps.{keptTimeStep, keptDuration, roundedUp, stepsOf, intervalOf, recorded, countBelow, recordsOf, recordLength}
-use Rattle.grid.specs.Breakers.{clearingTimeOf, faster}
-use Rattle.grid.specs.declared.parts.DcBreakerType.the-variants.{Mechanical, SolidState}
+use Rattle.grid.specs.Simulator.{blankStation, blankCable, blankBreaker, keptTimeStep, keptDuration, newSimulator, withStation, withCable, withBreaker}
 use Rattle.grid.specs.declared.simulator.DcSwitchingSimulator.{DcSwitchingSimulator}
 
 -- rated kV 1 to 2,000: both ends, the doubles next to them outside, and 01's 1,999.9 and 0.5
@@ -37,30 +33,10 @@ kept-are : (keptTimeStep (decimal 5 100) ≡ decimal 1 10) × (keptTimeStep nan 
 unfolding keptTimeStep keptDuration realIn le lt eq ofInt ofBits round neg maxOf isNan
 kept-are = (refl, refl, refl, refl, refl, refl)
 
--- 01's examples that are run: 10,000 steps; a million steps, and more
-steps-are : (stepsOf (newSimulator (decimal 10 1) (decimal 100 1)) ≡ 10000) × (stepsOf (newSimulator (decimal 1 1) (decimal 1000 1)) ≡ 1000000) × (stepsOf (newSimulator (decimal 1 1) (decimal 1001 1)) ≡ 1001000)
-    × (stepsOf (newSimulator (decimal 1000000 1) nought) ≡ 1)
-unfolding stepsOf newSimulator keptTimeStep keptDuration realIn le lt eq ofInt ofBits round maxOf isNan div roundedUp
-steps-are = (refl, refl, refl, refl)
-
-up-are : (roundedUp (decimal 5 2) ≡ 3) × (roundedUp (decimal 3 1) ≡ 3) × (roundedUp (neg (decimal 3 1)) ≡ 0) × (roundedUp nan ≡ 0)
-unfolding roundedUp round neg
-up-are = (refl, refl, refl, refl)
-
--- every step of 9,999, every second of 10,000; of 12 steps at an interval of 1 all
-intervals-are : (intervalOf 1 ≡ 1) × (intervalOf 9999 ≡ 1) × (intervalOf 10000 ≡ 2) × (intervalOf 1000000 ≡ 200) × (recorded 10000 9998 ≡ true) × (recorded 10000 9997 ≡ false) × (recorded 10000 9999 ≡ true) × (recordsOf 12 ≡ 12)
-unfolding countBelow
-intervals-are = (refl, refl, refl, refl, refl, refl, refl, refl)
-
--- breakers of 7 ms and 500 µs: the faster one's time
-fastest-are : foldl faster (decimal 100 1) (record { id = 0; «station_id» = 0; «breaker_type» = Mechanical (decimal 7 1); «max_breaking_current_ka» = nought; «energy_absorption_mj» = nought } ∷ record { id = 0; «station_id» = 0; «breaker_type» = SolidState (decimal 500 1) nought; «max_breaking_current_ka» = nought; «energy_absorption_mj» = nought } ∷ []) ≡ decimal 5 10
-unfolding clearingTimeOf minOf isNan lt ofBits round div
-fastest-are = refl
-
--- time and fault current; one station's two numbers, a cable, a breaker
+-- a part of each kind put in
 one : DcSwitchingSimulator
 one = withBreaker (withCable (withStation (newSimulator (decimal 10 1) (decimal 100 1)) blankStation .grid) blankCable .grid) blankBreaker .grid
 
-lengths-are : (recordLength one ≡ 6) × (one .«n_stations» ≡ 1) × (one .«n_cables» ≡ 1) × (one .«n_breakers» ≡ 1)
+counts-are : (one .«n_stations» ≡ 1) × (one .«n_cables» ≡ 1) × (one .«n_breakers» ≡ 1)
 unfolding one newSimulator withStation withCable withBreaker
-lengths-are = (refl, refl, refl, refl)
+counts-are = (refl, refl, refl)

@@ -1,8 +1,4 @@
 pub mod Table
-pub mod Ceiling
-pub mod Records
-pub mod Stepping
 pub mod Claims
-pub mod Examples
 pub mod Tied
 mod Controls

@@ -8,15 +8,10 @@ use borrow.Fn.Kinds.{endedOf}
 use denote.Triple.Clauses.{AtExit}
 use lib.Ieee.{nan}
 use Rattle.grid.specs.Ranges.{rowOf}
-use Rattle.grid.specs.Steps.{stepsOf}
-use Rattle.grid.specs.Claims.{Steps}
-use Rattle.grid.proofs.Claims.{range-claims, step-claims}
+use Rattle.grid.proofs.Claims.{range-claims}
 use Rattle.grid.proofs.ranges.in_range as in-range-contract
 use Rattle.grid.proofs.ranges.in_range.Kinds as in-range-kinds
 use Rattle.grid.proofs.ranges.in_range.Reads as in-range-reads
-use Rattle.grid.proofs.steps.total_steps as total-steps-contract
-use Rattle.grid.proofs.steps.total_steps.Kinds as total-steps-kinds
-use Rattle.grid.proofs.steps.total_steps.Reads as total-steps-reads
 
 module _ (κs : Lfts 0) (a : ArgsD in-range-contract.signature κs) (r : ResD in-range-contract.signature κs) (e : AtExit (endedOf 0 in-range-kinds.ps in-range-kinds.r) κs) where
   pub in-range-any : in-range-reads.Asked κs a
@@ -24,11 +19,3 @@ module _ (κs : Lfts 0) (a : ArgsD in-range-contract.signature κs) (r : ResD in
 
   pub nan-refused : in-range-reads.Learnt κs a r e → a .1 .0 ≡ nan → r ≡ false
   nan-refused h n = rw n at h ∙ range-claims .nan-outside (rowOf (a .0))
-
-module _ (κs : Lfts 0) (a : ArgsD total-steps-contract.signature κs) (r : ResD total-steps-contract.signature κs) (e : AtExit (endedOf 0 total-steps-kinds.ps total-steps-kinds.r) κs) where
-  pub total-steps-any : total-steps-reads.Asked κs a
-  total-steps-any = tt
-
-  -- up to the limit, N itself
-  pub total-steps-are : total-steps-reads.Learnt κs a r e → Steps (stepsOf (a .0)) → r ≡ stepsOf (a .0)
-  total-steps-are h k = h ∙ step-claims .counted (stepsOf (a .0)) k

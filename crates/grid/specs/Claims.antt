@@ -1,11 +1,10 @@
 -- What document 01 says of ranges and steps in words, and what a reader expects beside the definitions. The proofs are in proofs/Claims.antt.
 use mathlib.Core.Path.{_≡_}
 use mathlib.Core.Bool.{true, false}
-use Prim.Native.Nat.{ℕ, _+_, _-_, _*_, _/_, _^_, _≤_, _<_}
-use lib.IntN.{ℤ, pos}
-use lib.Ieee.{nan, fin, binary64, up, down, ofInt}
+use Prim.Native.Nat.{ℕ, _-_, _^_, _≤_, _<_}
+use lib.IntN.{pos}
+use lib.Ieee.{nan, binary64, ofInt}
 use Rattle.grid.specs.Ranges.{Ends, rowOf, realIn, wholeIn}
-use Rattle.grid.specs.Steps.{roundedUp, mostSteps, countedTo, intervalOf, recorded, recordsOf}
 
 pub record RangeClaims : Type 0 where
   -- NaN is outside every range
@@ -16,18 +15,3 @@ pub record RangeClaims : Type 0 where
   -- a whole number lies in a range where its double does; from 2 ^ 53 up it lies in none
   pub whole : (k n : ℕ) → n < 2 ^ 53 → realIn (rowOf k) (ofInt binary64 (pos n)) ≡ wholeIn (rowOf k) n
   pub whole-past : (k n : ℕ) → 2 ^ 53 ≤ n → wholeIn (rowOf k) n ≡ false
-
--- a number of steps that a run can have
-abbrev pub Steps : ℕ → Type 0
-Steps n = (1 ≤ n) × (n ≤ mostSteps)
-
-pub record StepClaims : Type 0 where
-  -- "rounded up": the least whole number that is not below m * 2 ^ e
-  pub reaches : (m : ℕ) (e : ℤ) → m * up e ≤ roundedUp (fin false m e) * down e
-  pub least : (m : ℕ) (e : ℤ) (n : ℕ) → m * up e ≤ n * down e → roundedUp (fin false m e) ≤ n
-  -- up to the limit the count is the number
-  pub counted : (n : ℕ) → Steps n → countedTo n ≡ n
-  -- the recorded steps: the multiples of the interval before the last step, (n - 1) / interval rounded up, and the last
-  pub records : (n : ℕ) → 1 ≤ n → recordsOf n ≡ 1 + (n - 1 + (intervalOf n - 1)) / intervalOf n
-  pub first-recorded : (n : ℕ) → recorded n 0 ≡ true
-  pub last-recorded : (n : ℕ) → recorded n (n - 1) ≡ true

@@ -4,8 +4,10 @@ use mathlib.Core.Bool.{true, false, cond}
 use mathlib.Core.List.{List}
 use lib.Dec.{ltb}
 use lib.ListN.{take, set, replicate}
-use lib.Ieee.{Float}
-use Rattle.float64.specs.Constants.{nought}
+use mathlib.Core.Path.{_≡_, refl}
+use lib.Ieee.{Float, binary64, ofBits, round}
+use Rattle.float64.specs.Constants.{nought, decimal}
+use Rattle.float64.specs.Choice.{maxOf}
 use Rattle.grid.specs.declared.parts.ConverterTopology.the-variants.{Lcc}
 use Rattle.grid.specs.declared.parts.DcBreakerType.the-variants.{Mechanical}
 use Rattle.grid.specs.declared.parts.ConverterStation.{ConverterStation}
@@ -13,7 +15,8 @@ use Rattle.grid.specs.declared.parts.DcCable.{DcCable}
 use Rattle.grid.specs.declared.parts.DcBreaker.{DcBreaker}
 use Rattle.grid.specs.declared.simulator.DcSwitchingSimulator.{DcSwitchingSimulator}
 use Rattle.grid.specs.declared.simulator.Added.{Added}
-use Rattle.grid.specs.Steps.{keptTimeStep, keptDuration}
+use Rattle.grid.specs.Ranges as range
+use Rattle.grid.specs.Ranges.{realIn}
 
 -- the parts that the counts speak of: what stands past a count is none of the grid's, and a count past an array takes all of it
 abbrev pub stationsOf : DcSwitchingSimulator → List ConverterStation
@@ -46,6 +49,24 @@ blankCable = record { id = 0; «from_station» = 0; «to_station» = 0; «r_per_
 
 abbrev pub blankBreaker : DcBreaker
 blankBreaker = record { id = 0; «station_id» = 0; «breaker_type» = Mechanical nought; «max_breaking_current_ka» = nought; «energy_absorption_mj» = nought }
+
+-- time step .. raised to at least 0.1; duration .. raised to at least 0.001
+abbrev pub leastTimeStep : Float
+leastTimeStep = ofBits binary64 0x3fb9_9999_9999_999a
+
+abbrev pub leastDuration : Float
+leastDuration = ofBits binary64 0x3f50_624d_d2f1_a9fc
+
+pub constants-are : (leastTimeStep ≡ decimal 1 10) × (leastDuration ≡ decimal 1 1000)
+unfolding ofBits round
+constants-are = (refl, refl)
+
+-- what `new` keeps of a time step and a duration: raised where it lies in its range, else as it is, for rule 4 to refuse
+unfoldable pub keptTimeStep : Float → Float
+keptTimeStep dt = cond (realIn range.timeStep dt) (maxOf dt leastTimeStep) dt
+
+unfoldable pub keptDuration : Float → Float
+keptDuration d = cond (realIn range.duration d) (maxOf d leastDuration) d
 
 -- `new`: no parts yet, and the time step and the duration as they are kept
 unfoldable pub newSimulator : Float → Float → DcSwitchingSimulator

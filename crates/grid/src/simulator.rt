@@ -1,13 +1,19 @@
 // A grid with its time step and duration, by value.
 ghost use mathlib.Core.Path.{_≡_};
 ghost use Prim.Native.Nat.{min};
-ghost use Rattle.grid.specs.Simulator.{newSimulator, withStation, withCable, withBreaker};
+ghost use Rattle.grid.specs.Simulator.{keptTimeStep, keptDuration, newSimulator, withStation, withCable, withBreaker};
 use crate::parts::ConverterStation;
 use crate::parts::ConverterTopology;
 use crate::parts::DcBreaker;
 use crate::parts::DcBreakerType;
 use crate::parts::DcCable;
-use crate::steps;
+use crate::ranges;
+use crate::ranges::in_range;
+
+// What a time step and a duration are raised to.
+pub const LEAST_TIME_STEP_US: f64 = 0.1;
+
+pub const LEAST_DURATION_MS: f64 = 0.001;
 
 // 000's simulator. What stands in an array at or past its count is never read.
 pub struct DcSwitchingSimulator {
@@ -69,8 +75,8 @@ impl DcSwitchingSimulator {
             n_stations: 0,
             n_cables: 0,
             n_breakers: 0,
-            dt_us: steps::kept_time_step(dt_us),
-            duration_ms: steps::kept_duration(duration_ms),
+            dt_us: kept_time_step(dt_us),
+            duration_ms: kept_duration(duration_ms),
         }
     }
 
@@ -133,6 +139,23 @@ impl DcSwitchingSimulator {
             has_room: false,
         }
     }
+}
+
+// What `new` keeps: a time step in its range is raised, and another is left for rule 4 to refuse.
+fn kept_time_step(dt_us: f64) -> f64
+    ensures { λ r. ⌜ r ≡ keptTimeStep «dt_us» ⌝ }
+{
+    let raised = float64::max(dt_us, LEAST_TIME_STEP_US);
+    let inside = in_range(ranges::DT_US, dt_us);
+    if inside { raised } else { dt_us }
+}
+
+fn kept_duration(duration_ms: f64) -> f64
+    ensures { λ r. ⌜ r ≡ keptDuration «duration_ms» ⌝ }
+{
+    let raised = float64::max(duration_ms, LEAST_DURATION_MS);
+    let inside = in_range(ranges::DURATION_MS, duration_ms);
+    if inside { raised } else { duration_ms }
 }
 
 // How many elements of an array a count speaks of.

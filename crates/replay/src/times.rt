@@ -21,17 +21,17 @@ pub fn answer(lines: &mut [u8; ROOM], answers: &mut [u8; ROOM], c: Cursor) -> Af
 }
 
 fn append_steps(answers: &mut [u8; ROOM], c: Cursor, g: DcSwitchingSimulator) -> Cursor {
-    let steps = grid::total_steps(g);
+    let steps = timing::total_steps(g);
     let c = numbers::append(answers, c, steps);
-    let c = numbers::append(answers, c, grid::record_interval(steps));
-    let c = numbers::append(answers, c, grid::recorded_steps(steps));
-    numbers::append(answers, c, grid::record_length(g) as u64)
+    let c = numbers::append(answers, c, timing::record_interval(steps));
+    let c = numbers::append(answers, c, timing::recorded_steps(steps));
+    numbers::append(answers, c, timing::record_length(g) as u64)
 }
 
 fn append_times(answers: &mut [u8; ROOM], c: Cursor, g: DcSwitchingSimulator) -> Cursor {
-    let c = append_double(answers, c, grid::time_step_ms(g));
-    let c = append_double(answers, c, grid::duration_ms(g));
-    append_double(answers, c, grid::fastest_breaker_clearing_ms(g))
+    let c = append_double(answers, c, timing::time_step_ms(g));
+    let c = append_double(answers, c, timing::duration_ms(g));
+    append_double(answers, c, timing::fastest_breaker_clearing_ms(g))
 }
 
 fn append_clearing_times(answers: &mut [u8; ROOM], c: Cursor, g: DcSwitchingSimulator) -> Cursor {
@@ -41,7 +41,7 @@ fn append_clearing_times(answers: &mut [u8; ROOM], c: Cursor, g: DcSwitchingSimu
     while i < n {
         let b = g.breakers[i];
         let breaker_type = b.breaker_type;
-        at = append_double(answers, at, grid::breaker_clearing_time_ms(breaker_type));
+        at = append_double(answers, at, timing::breaker_clearing_time_ms(breaker_type));
         i += 1;
     }
     at

@@ -13,10 +13,10 @@ use Rattle.lists.proofs.Counting.{by-test}
 use Rattle.lists.proofs.Scanning.{passed, passing-short}
 use Rattle.rules.specs.PartChecks.{stationOk, cableOk, breakerOk, faultOk, orderOk}
 use Rattle.grid.specs.Simulator.{stationsOf, cablesOf, breakersOf}
-use Rattle.grid.specs.Steps.{stepsOf, mostSteps}
+use Rattle.timing.specs.Steps.{stepsOf, mostSteps}
 use Rattle.rules.specs.Studies.{broken, tooManySteps, switchingOrder, faultOrder, stationOutside, cableOutside, breakerOutside, flowRefusal, detectionRefusal, switchingRefusal, faultRefusal, sweepRefusal, pointRefusal, numberOf}
 use Rattle.rules.specs.Claims.{RefusalClaims, PositionClaims, AcceptedClaims}
-use Rattle.grid.specs.Claims.{Steps}
+use Rattle.timing.specs.Claims.{Steps}
 use Rattle.grid.specs.declared.parts.ConverterStation.{ConverterStation}
 use Rattle.grid.specs.declared.simulator.DcSwitchingSimulator.{DcSwitchingSimulator}
 use Rattle.rules.specs.declared.studies.Verdict.{Verdict}

@@ -9,8 +9,8 @@ use Rattle.float64.specs.Constants.{nought, decimal}
 use Rattle.float64.specs.Choice.{maxOf}
 use Rattle.grid.specs.Ranges.{realIn, wholeIn}
 use Rattle.rules.specs.PartChecks.{topologyOk, stationOk, cableOk, breakerTypeOk, breakerOk, faultOk, orderOk}
-use Rattle.grid.specs.Simulator.{blankStation, blankCable, blankBreaker, newSimulator, withStation, withCable, withBreaker}
-use Rattle.grid.specs.Steps.{keptTimeStep, keptDuration, roundedUp, stepsOf}
+use Rattle.grid.specs.Simulator.{blankStation, blankCable, blankBreaker, newSimulator, withStation, withCable, withBreaker, keptTimeStep, keptDuration}
+use Rattle.timing.specs.Steps.{roundedUp, stepsOf}
 use Rattle.rules.specs.Studies.{order, first, broken, tooManyParts, timeOutside, tooManySteps, stationOutside, cableOutside, breakerOutside, flowOrder, switchingOrder, faultOrder, flowRefusal, switchingRefusal, faultRefusal, sweepRefusal, pointRefusal}
 use Rattle.grid.specs.declared.parts.ConverterTopology.the-variants.{Mmc}
 use Rattle.grid.specs.declared.parts.DcFaultType.the-variants.{PoleToGround}

@@ -8,8 +8,8 @@ use lib.Dec.{ltb}
 use lib.ListN.{length}
 use Rattle.lists.specs.Scans.{every, passing}
 use Rattle.grid.specs.Simulator.{stationsOf, cablesOf, breakersOf}
-use Rattle.grid.specs.Steps.{stepsOf}
-use Rattle.grid.specs.Claims.{Steps}
+use Rattle.timing.specs.Steps.{stepsOf}
+use Rattle.timing.specs.Claims.{Steps}
 use Rattle.rules.specs.PartChecks.{stationOk, cableOk, breakerOk, faultOk, orderOk}
 use Rattle.rules.specs.Studies.{broken, stationOutside, cableOutside, breakerOutside, flowOrder, detectionOrder, switchingOrder, faultOrder, flowRefusal, detectionRefusal, switchingRefusal, faultRefusal, sweepRefusal, pointRefusal, numberOf}
 use Rattle.grid.specs.declared.parts.ConverterStation.{ConverterStation}

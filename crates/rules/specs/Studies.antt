@@ -9,7 +9,7 @@ use Rattle.grid.specs.Ranges as range
 use Rattle.grid.specs.Ranges.{realIn}
 use Rattle.rules.specs.PartChecks.{stationOk, cableOk, breakerOk, faultOk, orderOk}
 use Rattle.grid.specs.Simulator.{stationsOf, cablesOf, breakersOf}
-use Rattle.grid.specs.Steps.{stepsOf, mostSteps}
+use Rattle.timing.specs.Steps.{stepsOf, mostSteps}
 use Rattle.grid.specs.declared.parts.ConverterStation.{ConverterStation}
 use Rattle.grid.specs.declared.parts.DcFaultEvent.{DcFaultEvent}
 use Rattle.grid.specs.declared.parts.SweepOrder.{SweepOrder}

@@ -31,6 +31,8 @@ pub enum Verdict {
 // The numbers of the rules, first to last.
 const FLOW: [u64; 5] = [3, 1, 6, 7, 8];
 
+const DETECTION: [u64; 5] = [3, 1, 6, 7, 8];
+
 const SWITCHING: [u64; 7] = [3, 1, 4, 5, 6, 7, 8];
 
 const FAULT: [u64; 9] = [3, 1, 2, 4, 5, 6, 7, 8, 9];
@@ -45,7 +47,7 @@ pub fn check_flow(g: DcSwitchingSimulator) -> Verdict
 pub fn check_detection(g: DcSwitchingSimulator) -> Verdict
     ensures { λ r. ⌜ numberOf r ≡ detectionRefusal g ⌝ }
 {
-    let order = FLOW;
+    let order = DETECTION;
     verdict_of(first_broken(&order, g, false))
 }
 

@@ -1,7 +1,7 @@
 -- `too_many_steps` meets its contract. Assumes nothing.
 use Rattle.rules.specs.Studies.{tooManySteps}
 use borrow.Author.Needs.{needs}
-use Rattle.grid.proofs.Stepping.{limit-kept}
+use Rattle.timing.proofs.Stepping.{limit-kept}
 use Rattle.rules.proofs.studies.too_many_steps.Statement.{statement}
 use Rattle.rules.proofs.studies.too_many_steps.Tie as tie
 

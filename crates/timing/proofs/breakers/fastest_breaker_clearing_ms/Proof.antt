@@ -1,0 +1,89 @@
+-- `fastest_breaker_clearing_ms` meets its contract. Assumes nothing.
+use Prim.Native.Nat.{_≤_, _-_, min}
+use mathlib.Core.Path.{_≡_, refl, sym, ap, _∙_}
+use mathlib.Core.List.{foldl}
+use native.Mathlib.Omega.{arith}
+use lib.ListN.{length, take}
+use borrow.Author.Needs.{needs}
+use borrow.Author.Tests.{eq-eqb, ne-eqb}
+use Rattle.lists.proofs.Folds.{fold-more}
+use Rattle.lists.proofs.Scanning.{take-cut, unmapped}
+use Rattle.timing.specs.Breakers.{faster, largest, fastestOf}
+use Rattle.timing.proofs.breakers.fastest_breaker_clearing_ms.Statement.{statement}
+use Rattle.timing.proofs.breakers.fastest_breaker_clearing_ms.Tie as tie
+
+abbrev Inv-loop : tie.InvT-loop
+Inv-loop g n fastest₀ i₀ fastest i = (i ≤ n) × (fastest ≡ foldl faster largest (take i (g .breakers)))
+
+abbrev μ-loop : tie.MeasureT-loop
+μ-loop g n fastest₀ i₀ fastest i = n - i
+
+long : (c : tie.Start Inv-loop μ-loop) → length (c .args .t1 .breakers) ≡ 32
+long c = search (needs, unmapped)
+
+present-requires : tie.Need-present-requires Inv-loop μ-loop
+present-requires c κs = search needs
+
+duration-ms-requires : tie.Need-duration-ms-requires Inv-loop μ-loop
+duration-ms-requires c κs = search needs
+
+returns : tie.Need-returns Inv-loop μ-loop
+unfolding fastestOf
+returns c = rw (eq-eqb (c .before .before .before .args .t1 .«n_breakers») 0 (omega (arith, c .before .before .present .ensures, c .before .if1 .taken))) (c .duration-ms .ensures)
+
+loop-holds : tie.Need-loop-holds Inv-loop μ-loop
+loop-holds c = (omega arith, refl)
+
+mul-b : tie.Need-mul-b Inv-loop μ-loop
+mul-b c = omega arith
+
+element-copy-out-b : tie.Need-element-copy-out-b Inv-loop μ-loop
+element-copy-out-b c = omega arith
+
+breaker-clearing-time-ms-requires : tie.Need-breaker-clearing-time-ms-requires Inv-loop μ-loop
+breaker-clearing-time-ms-requires c κs = search needs
+
+min-requires : tie.Need-min-requires Inv-loop μ-loop
+min-requires c κs = search needs
+
+add-i : tie.Need-add-i Inv-loop μ-loop
+add-i c = omega arith
+
+loop-less : tie.Need-loop-less Inv-loop μ-loop
+loop-less c = omega arith
+
+loop-again : tie.Need-loop-again Inv-loop μ-loop
+loop-again c =
+    let a = c .before .before .before .before in
+    let s = a .before .before .before in (
+      omega arith,
+      c .min .ensures ∙ rw (c .before .breaker-clearing-time-ms .ensures, a .loop .inv .1) (sym (fold-more faster largest _ (s .args .t1 .breakers) (a .loop .i) (omega (arith, long s)))),
+    )
+
+returns-2 : tie.Need-returns-2 Inv-loop μ-loop
+unfolding fastestOf
+returns-2 c =
+    let a = c .before in
+    let s = a .before .before .before in
+    let b = s .args .t1 .«n_breakers» in
+    rw (ne-eqb b 0 (λ e. omega (arith, e, a .before .before .present .ensures, a .before .if1 .left)))
+    (a .loop .inv .1 ∙ ap (foldl faster largest) (take-cut (s .args .t1 .breakers) b 32 (a .loop .i) (long s) (omega (arith, a .before .before .present .ensures))))
+
+pub fastest-breaker-clearing-ms-spec : {M : Type 1} → statement M
+fastest-breaker-clearing-ms-spec =
+    tie.close
+    (tie.spec
+    Inv-loop
+    μ-loop
+    present-requires
+    duration-ms-requires
+    returns
+    loop-holds
+    mul-b
+    element-copy-out-b
+    breaker-clearing-time-ms-requires
+    min-requires
+    add-i
+    loop-less
+    loop-again
+    returns-2)

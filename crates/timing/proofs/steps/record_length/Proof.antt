@@ -1,0 +1,55 @@
+-- `record_length` meets its contract. Assumes nothing.
+use Prim.Native.Nat.{ℕ, _+_, _*_, min}
+use mathlib.Core.Path.{_≡_}
+use mathlib.Core.List.{List}
+use native.Mathlib.Omega.{arith}
+use lib.ListN.{length, take, length-take}
+use borrow.Author.Needs.{needs}
+use Rattle.lists.proofs.Scanning.{unmapped}
+use Rattle.timing.proofs.steps.record_length.Statement.{statement}
+use Rattle.timing.proofs.steps.record_length.Tie as tie
+
+counted : {A : Type 0} (xs : List A) (n m k : ℕ) → length xs ≡ m → k ≡ min n m → k ≡ length (take n xs)
+counted xs n m k l e = rw (length-take, l) e
+
+numbers : {s c b s' c' b' : ℕ} → s ≡ s' → c ≡ c' → b ≡ b' → 2 + 2 * s + c + b ≡ 2 + s' + s' + c' + b'
+numbers p q r = omega arith
+
+present-requires : tie.Need-present-requires
+present-requires c κs = search needs
+
+mul-result : tie.Need-mul-result
+mul-result c = search needs
+
+add-result : tie.Need-add-result
+add-result c = search needs
+
+present-requires-2 : tie.Need-present-requires-2
+present-requires-2 c κs = search needs
+
+add-result-2 : tie.Need-add-result-2
+add-result-2 c = search needs
+
+present-requires-3 : tie.Need-present-requires-3
+present-requires-3 c κs = search needs
+
+add-result-3 : tie.Need-add-result-3
+add-result-3 c = search needs
+
+returns : tie.Need-returns
+returns c =
+    let a = c .before .before .before .args in
+    numbers (counted (a .g .stations) _ 32 _ (search (needs, unmapped)) (c .before .before .present .ensures)) (counted (a .g .cables) _ 64 _ (search (needs, unmapped)) (c .before .present2 .ensures)) (counted (a .g .breakers) _ 32 _ (search (needs, unmapped)) (c .present3 .ensures))
+
+pub record-length-spec : {M : Type 1} → statement M
+record-length-spec =
+    tie.close
+    (tie.spec
+    present-requires
+    mul-result
+    add-result
+    present-requires-2
+    add-result-2
+    present-requires-3
+    add-result-3
+    returns)

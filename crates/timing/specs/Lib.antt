@@ -1,0 +1,4 @@
+pub mod Steps
+pub mod Breakers
+pub mod Claims
+pub mod Examples

@@ -1,0 +1,44 @@
+// How fast breakers clear a fault.
+ghost use mathlib.Core.Path.{_≡_};
+ghost use Rattle.timing.specs.Breakers.{clearingTimeOf, fastestOf};
+use crate::steps::duration_ms;
+use grid::DcBreakerType;
+use grid::DcSwitchingSimulator;
+use grid::present;
+
+// breaker_clearing_time_ms
+pub fn breaker_clearing_time_ms(breaker_type: DcBreakerType) -> f64
+    ensures { λ r. ⌜ r ≡ clearingTimeOf «breaker_type» ⌝ }
+{
+    match breaker_type {
+        DcBreakerType::Mechanical { opening_time_ms } => opening_time_ms,
+        DcBreakerType::SolidState {
+            turn_off_time_us,
+            on_state_loss_pct: _,
+        } => turn_off_time_us / 1000.0,
+        DcBreakerType::HybridBreaker {
+            opening_time_ms,
+            commutation_time_us,
+        } => commutation_time_us / 1000.0 + opening_time_ms * 0.3,
+    }
+}
+
+// DcSwitchingSimulator::fastest_breaker_clearing_ms
+pub fn fastest_breaker_clearing_ms(g: DcSwitchingSimulator) -> f64
+    ensures { λ r. ⌜ r ≡ fastestOf g ⌝ }
+{
+    let n = present(g.n_breakers, 32);
+    if n == 0 {
+        return duration_ms(g);
+    }
+    // f64::MAX
+    let mut fastest = 1.7976931348623157e308;
+    let mut i = 0;
+    while i < n {
+        let b = g.breakers[i];
+        let breaker_type = b.breaker_type;
+        fastest = float64::min(fastest, breaker_clearing_time_ms(breaker_type));
+        i += 1;
+    }
+    fastest
+}

@@ -1,0 +1,14 @@
+// The time of a run: how many steps it has and which of them are recorded, and how fast the breakers clear a fault.
+mod breakers;
+mod steps;
+
+pub use breakers::breaker_clearing_time_ms;
+pub use breakers::fastest_breaker_clearing_ms;
+pub use steps::MOST_STEPS;
+pub use steps::duration_ms;
+pub use steps::is_recorded;
+pub use steps::record_interval;
+pub use steps::record_length;
+pub use steps::recorded_steps;
+pub use steps::time_step_ms;
+pub use steps::total_steps;
