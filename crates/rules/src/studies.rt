@@ -7,12 +7,12 @@ use crate::part_checks;
 use grid::ConverterStation;
 use grid::DcFaultEvent;
 use grid::DcSwitchingSimulator;
-use grid::MOST_STEPS;
 use grid::SweepOrder;
 use grid::present;
 use grid::ranges;
 use grid::ranges::in_range;
-use grid::total_steps;
+use timing::MOST_STEPS;
+use timing::total_steps;
 
 // What a study answers first.
 pub enum Verdict {
