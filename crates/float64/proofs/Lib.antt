@@ -3,6 +3,7 @@ pub mod Tests
 pub mod Values
 pub mod SameValue
 pub mod Choosing
+pub mod Least
 pub mod NanPattern
 pub mod Series
 pub mod Whole

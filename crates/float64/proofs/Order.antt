@@ -5,7 +5,7 @@ use mathlib.Core.Bool.{Bool, true, false, not, _&&_, _||_, true≢false}
 use Prim.Native.Nat.{ℕ, _+_, _*_, _≤_, _<_}
 use native.Mathlib.Nat.{le-trans, le-of-eq, zero-mul, eq-of-mul-eq-mul-right, eq-or-lt-of-le, eq-zero-or-pos}
 use native.Mathlib.Omega.{arith}
-use borrow.Author.Tests.{ltb-false}
+use borrow.Author.Tests.{ltb-true, ltb-false}
 use lib.Dec.{T, ltb, eqb, lt→ltb, ltb→lt, eqb→eq}
 use lib.Ieee.{Float, nan, inf, fin, up, down, below, level, isNan, lt, le, eq}
 use lib.Ieee.Fits.{down-pos, and-i, and-l, and-r, eq→eqb}
@@ -143,3 +143,24 @@ le-refl-float (inf true) p = tt
 le-refl-float (inf false) p = tt
 le-refl-float (fin false m e) p = of-LE false (m * up e * down e) false (m * up e * down e) (le-of-eq refl)
 le-refl-float (fin true m e) p = of-LE true (m * up e * down e) true (m * up e * down e) (le-of-eq refl)
+
+-- ±a < ±b and ±b ≤ ±a are not both
+apart : (s : Bool) (a : ℕ) (t : Bool) (b : ℕ) → below s a t b ≡ true → LE t b s a → ⊥
+apart false a false b h k = let l = ltb-true a b h in omega arith
+apart false a true b h k = true≢false (sym h)
+apart true a false b h k = let l = ltb-true 0 (a + b) h in let z = k .0 in let y = k .1 in omega arith
+apart true a true b h k = let l = ltb-true b a h in omega arith
+
+pub lt-not-le : (x y : Float) → lt x y ≡ true → T (le y x) → ⊥
+unfolding lt le eq
+lt-not-le nan y h k = true≢false (sym h)
+lt-not-le (inf s) nan h k = true≢false (sym h)
+lt-not-le (inf true) (inf true) h k = true≢false (sym h)
+lt-not-le (inf true) (inf false) h k = k
+lt-not-le (inf false) (inf t) h k = true≢false (sym h)
+lt-not-le (inf true) (fin t n d) h k = k
+lt-not-le (inf false) (fin t n d) h k = true≢false (sym h)
+lt-not-le (fin s m e) nan h k = true≢false (sym h)
+lt-not-le (fin s m e) (inf true) h k = true≢false (sym h)
+lt-not-le (fin s m e) (inf false) h k = k
+lt-not-le (fin s m e) (fin t n d) h k = apart s (m * up e * down d) t (n * up d * down e) h (to-LE t (n * up d * down e) s (m * up e * down d) k)

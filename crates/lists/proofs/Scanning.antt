@@ -65,6 +65,11 @@ module _ {A : Type 0} (f : A → Bool) (d : A) where
   passing-at (x ∷ xs) (suc i) (suc n) h k p e =
       rw (left (f x) (every f (take i xs)) p) (ap suc (passing-at xs i n (le-of-suc-le-suc h) (le-of-suc-le-suc k) (right (f x) (every f (take i xs)) p) e))
 
+-- what passes one test passes another that asks for less
+pub every-of : {A : Type 0} (f h : A → Bool) → ((x : A) → f x ≡ true → h x ≡ true) → (xs : List A) → every f xs ≡ true → every h xs ≡ true
+every-of f h i [] p = refl
+every-of f h i (x ∷ xs) p = both (h x) (every h xs) (i x (left (f x) (every f xs) p)) (every-of f h i xs (right (f x) (every f xs) p))
+
 -- a count past the end takes what there is
 pub take-cut : {A : Type 0} (xs : List A) (n m k : ℕ) → length xs ≡ m → k ≡ min n m → take k xs ≡ take n xs
 take-cut xs n m k l e =

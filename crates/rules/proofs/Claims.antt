@@ -10,17 +10,19 @@ use lib.Dec.{ltb}
 use lib.ListN.{getD}
 use Rattle.lists.specs.Scans.{every}
 use Rattle.lists.proofs.Counting.{by-test}
-use Rattle.lists.proofs.Scanning.{passed, passing-short}
+use Rattle.lists.proofs.Scanning.{passed, passing-short, every-of}
 use Rattle.rules.specs.PartChecks.{stationOk, cableOk, breakerOk, faultOk, orderOk}
 use Rattle.grid.specs.Simulator.{stationsOf, cablesOf, breakersOf}
 use Rattle.timing.specs.Steps.{stepsOf, mostSteps}
 use Rattle.rules.specs.Studies.{broken, tooManySteps, switchingOrder, faultOrder, stationOutside, cableOutside, breakerOutside, flowRefusal, detectionRefusal, switchingRefusal, faultRefusal, sweepRefusal, pointRefusal, numberOf}
-use Rattle.rules.specs.Claims.{RefusalClaims, PositionClaims, AcceptedClaims}
-use Rattle.timing.specs.Claims.{Steps}
+use Rattle.rules.specs.Claims.{RefusalClaims, PositionClaims, AcceptedClaims, FastestClaims}
+use Rattle.timing.specs.Claims.{Steps, timed}
+use Rattle.timing.proofs.Fastest.{breaker-claims}
 use Rattle.grid.specs.declared.parts.ConverterStation.{ConverterStation}
 use Rattle.grid.specs.declared.simulator.DcSwitchingSimulator.{DcSwitchingSimulator}
 use Rattle.rules.specs.declared.studies.Verdict.{Verdict}
 use Rattle.rules.specs.declared.studies.Verdict.the-variants.{Accepted, NoStation, NoCable, TooManyParts, TimeOutside, TooManySteps, StationOutside, CableOutside, BreakerOutside, EventOutside}
+use Rattle.rules.proofs.AcceptedTimes.{accepted-timed}
 use Rattle.rules.proofs.Deciding.{decides, not-true}
 
 -- ---- refusals
@@ -99,4 +101,21 @@ accepted-claims =
       switching = λ g h. fifth g false switchingOrder 3 refl (refusal-claims .switching g .accepted .0 h);
       fault = λ g f h. fifth g (not (faultOk f)) faultOrder 4 refl (refusal-claims .fault g f .accepted .0 h);
       sweep = λ g o h. fifth g (not (orderOk o)) faultOrder 4 refl (refusal-claims .sweep g o .accepted .0 h);
+    }
+
+-- ---- the fastest breaker
+
+all-timed : (g : DcSwitchingSimulator) → breakerOutside g ≡ false → every timed (breakersOf g) ≡ true
+unfolding breakerOutside
+all-timed g h = every-of breakerOk timed accepted-timed (breakersOf g) (not-false (every breakerOk (breakersOf g)) h)
+  where
+    not-false : (b : Bool) → not b ≡ false → b ≡ true
+    not-false true e = refl
+    not-false false e = sym e
+
+pub fastest-claims : FastestClaims
+fastest-claims =
+    record {
+      none-faster = λ g h. breaker-claims .none-faster g (all-timed g h);
+      one-of-them = λ g h. breaker-claims .one-of-them g (all-timed g h);
     }

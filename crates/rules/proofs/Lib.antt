@@ -1,6 +1,7 @@
 pub mod Numbered
 pub mod Refused
 pub mod Deciding
+pub mod AcceptedTimes
 pub mod Claims
 pub mod Tied
 mod Controls

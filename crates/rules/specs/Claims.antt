@@ -3,13 +3,15 @@ use mathlib.Core.Path.{_≡_}
 use mathlib.Core.Logic.{_↔_}
 use mathlib.Core.Bool.{Bool, true, false, not}
 use mathlib.Core.List.{List, _∷_, _++_}
-use Prim.Native.Nat.{ℕ}
+use Prim.Native.Nat.{ℕ, _<_}
 use lib.Dec.{ltb}
 use lib.ListN.{length}
+use lib.Ieee.{le}
 use Rattle.lists.specs.Scans.{every, passing}
 use Rattle.grid.specs.Simulator.{stationsOf, cablesOf, breakersOf}
 use Rattle.timing.specs.Steps.{stepsOf}
-use Rattle.timing.specs.Claims.{Steps}
+use Rattle.timing.specs.Breakers.{timeOf, fastestOf}
+use Rattle.timing.specs.Claims.{Steps, HasTime}
 use Rattle.rules.specs.PartChecks.{stationOk, cableOk, breakerOk, faultOk, orderOk}
 use Rattle.rules.specs.Studies.{broken, stationOutside, cableOutside, breakerOutside, flowOrder, detectionOrder, switchingOrder, faultOrder, flowRefusal, detectionRefusal, switchingRefusal, faultRefusal, sweepRefusal, pointRefusal, numberOf}
 use Rattle.grid.specs.declared.parts.ConverterStation.{ConverterStation}
@@ -45,3 +47,8 @@ pub record AcceptedClaims : Type 0 where
   pub switching : (g : DcSwitchingSimulator) → switchingRefusal g ≡ 0 → Steps (stepsOf g)
   pub fault : (g : DcSwitchingSimulator) (f : DcFaultEvent) → faultRefusal g f ≡ 0 → Steps (stepsOf g)
   pub sweep : (g : DcSwitchingSimulator) (o : SweepOrder) → sweepRefusal g o ≡ 0 → Steps (stepsOf g)
+
+-- "Fastest of all", where the breakers are accepted: one of them has that time, and none is faster
+pub record FastestClaims : Type 0 where
+  pub none-faster : (g : DcSwitchingSimulator) → breakerOutside g ≡ false → every (λ b. le (fastestOf g) (timeOf b)) (breakersOf g) ≡ true
+  pub one-of-them : (g : DcSwitchingSimulator) → breakerOutside g ≡ false → 0 < length (breakersOf g) → HasTime (breakersOf g) (fastestOf g)

@@ -31,9 +31,12 @@ clearingTimeOf (Mechanical opening) = opening
 clearingTimeOf (SolidState turnOff loss) = div binary64 turnOff k1000
 clearingTimeOf (HybridBreaker opening commutation) = add binary64 (div binary64 commutation k1000) (mul binary64 opening k03)
 
+abbrev pub timeOf : DcBreaker → Float
+timeOf b = clearingTimeOf (b .«breaker_type»)
+
 -- the smaller of a time and a breaker's
 abbrev pub faster : Float → DcBreaker → Float
-faster t b = minOf t (clearingTimeOf (b .«breaker_type»))
+faster t b = minOf t (timeOf b)
 
 -- Fastest of all; without breakers the duration
 unfoldable pub fastestOf : DcSwitchingSimulator → Float

@@ -1,4 +1,5 @@
 -- `add_station` meets its contract. Assumes nothing.
+use native.Mathlib.Omega.{arith}
 use borrow.Author.Tests.{lt-ltb, le-ltb}
 use Rattle.grid.specs.Simulator.{withStation}
 use borrow.Author.Needs.{needs}
@@ -16,11 +17,11 @@ add-grid c = search needs
 
 returns : tie.Need-returns
 unfolding withStation
-returns c = rw (lt-ltb _ _ (c .if1 .taken))
+returns c = rw (lt-ltb (c .before .args .self .«n_stations») 32 (omega (arith, c .if1 .taken)))
 
 returns-2 : tie.Need-returns-2
 unfolding withStation
-returns-2 c = rw (le-ltb _ _ (c .if1 .left))
+returns-2 c = rw (le-ltb (c .before .args .self .«n_stations») 32 (omega (arith, c .if1 .left)))
 
 pub add-station-spec : {M : Type 1} → statement M
 add-station-spec =
