@@ -82,21 +82,58 @@ newSimulator dt duration =
       «duration_ms» = keptDuration duration;
     }
 
--- a part put at the end, where there is room; else the grid as it was
+-- the answer where there is room, and where there is none: the grid as it was
+abbrev pub added : DcSwitchingSimulator → Added
+added g = record { grid = g; «has_room» = true }
+
+abbrev pub full : DcSwitchingSimulator → Added
+full g = record { grid = g; «has_room» = false }
+
+-- a part put at the end, where there is room
 unfoldable pub withStation : DcSwitchingSimulator → ConverterStation → Added
 withStation g s =
     cond (ltb (g .«n_stations») 32)
-    (record { grid = record { stations = set (g .stations) (g .«n_stations») s; cables = g .cables; breakers = g .breakers; «n_stations» = g .«n_stations» + 1; «n_cables» = g .«n_cables»; «n_breakers» = g .«n_breakers»; «dt_us» = g .«dt_us»; «duration_ms» = g .«duration_ms» }; «has_room» = true })
-    (record { grid = g; «has_room» = false })
+    (added
+    record {
+      stations = set (g .stations) (g .«n_stations») s;
+      cables = g .cables;
+      breakers = g .breakers;
+      «n_stations» = g .«n_stations» + 1;
+      «n_cables» = g .«n_cables»;
+      «n_breakers» = g .«n_breakers»;
+      «dt_us» = g .«dt_us»;
+      «duration_ms» = g .«duration_ms»;
+    })
+    (full g)
 
 unfoldable pub withCable : DcSwitchingSimulator → DcCable → Added
 withCable g c =
     cond (ltb (g .«n_cables») 64)
-    (record { grid = record { stations = g .stations; cables = set (g .cables) (g .«n_cables») c; breakers = g .breakers; «n_stations» = g .«n_stations»; «n_cables» = g .«n_cables» + 1; «n_breakers» = g .«n_breakers»; «dt_us» = g .«dt_us»; «duration_ms» = g .«duration_ms» }; «has_room» = true })
-    (record { grid = g; «has_room» = false })
+    (added
+    record {
+      stations = g .stations;
+      cables = set (g .cables) (g .«n_cables») c;
+      breakers = g .breakers;
+      «n_stations» = g .«n_stations»;
+      «n_cables» = g .«n_cables» + 1;
+      «n_breakers» = g .«n_breakers»;
+      «dt_us» = g .«dt_us»;
+      «duration_ms» = g .«duration_ms»;
+    })
+    (full g)
 
 unfoldable pub withBreaker : DcSwitchingSimulator → DcBreaker → Added
 withBreaker g b =
     cond (ltb (g .«n_breakers») 32)
-    (record { grid = record { stations = g .stations; cables = g .cables; breakers = set (g .breakers) (g .«n_breakers») b; «n_stations» = g .«n_stations»; «n_cables» = g .«n_cables»; «n_breakers» = g .«n_breakers» + 1; «dt_us» = g .«dt_us»; «duration_ms» = g .«duration_ms» }; «has_room» = true })
-    (record { grid = g; «has_room» = false })
+    (added
+    record {
+      stations = g .stations;
+      cables = g .cables;
+      breakers = set (g .breakers) (g .«n_breakers») b;
+      «n_stations» = g .«n_stations»;
+      «n_cables» = g .«n_cables»;
+      «n_breakers» = g .«n_breakers» + 1;
+      «dt_us» = g .«dt_us»;
+      «duration_ms» = g .«duration_ms»;
+    })
+    (full g)
