@@ -117,14 +117,16 @@ pub fn check_order(o: SweepOrder) -> bool
     resistance & inception & low & (o.low_tenth <= o.high_tenth) & high
 }
 
-// The position of the first station that rule 6 refuses, or how many stations there are.
+// The position of the first station that rule 6 refuses, or how many stations there are. The array is taken out of the grid first,
+// here and below, so that no call copies the rest.
 pub fn first_bad_station(g: DcSwitchingSimulator) -> usize
     ensures { λ r. ⌜ r ≡ passing stationOk (stationsOf g) ⌝ }
 {
     let n = present(g.n_stations, 32);
+    let stations = g.stations;
     let mut i = 0;
     while i < n {
-        let s = g.stations[i];
+        let s = stations[i];
         if check_station(s) {
             i += 1;
         } else {
@@ -139,9 +141,10 @@ pub fn first_bad_cable(g: DcSwitchingSimulator) -> usize
     ensures { λ r. ⌜ r ≡ passing cableOk (cablesOf g) ⌝ }
 {
     let n = present(g.n_cables, 64);
+    let cables = g.cables;
     let mut i = 0;
     while i < n {
-        let c = g.cables[i];
+        let c = cables[i];
         if check_cable(c) {
             i += 1;
         } else {
@@ -156,9 +159,10 @@ pub fn first_bad_breaker(g: DcSwitchingSimulator) -> usize
     ensures { λ r. ⌜ r ≡ passing breakerOk (breakersOf g) ⌝ }
 {
     let n = present(g.n_breakers, 32);
+    let breakers = g.breakers;
     let mut i = 0;
     while i < n {
-        let b = g.breakers[i];
+        let b = breakers[i];
         if check_breaker(b) {
             i += 1;
         } else {

@@ -1,58 +1,12 @@
-// The float functions in loops, for a program in Rust to time and to compare: each adds up `count` values of a function at first, first + step,
-// and so on. Each function is called once in this crate, as in the Rust that it is timed beside, so that both are compiled in place.
+// The library's functions in loops, for a program in Rust to time and to compare.
+mod breakers;
+mod floats;
+mod samples;
+mod studies;
 
-// E.
-#[no_mangle]
-pub extern "C" fn sum_exp(first: f64, step: f64, count: u64) -> f64 {
-    let mut sum = 0.0;
-    let mut t = first;
-    let mut left = count;
-    while 0 < left {
-        sum += float64::exp(t);
-        t += step;
-        left -= 1;
-    }
-    sum
-}
-
-// S.
-#[no_mangle]
-pub extern "C" fn sum_sin(first: f64, step: f64, count: u64) -> f64 {
-    let mut sum = 0.0;
-    let mut t = first;
-    let mut left = count;
-    while 0 < left {
-        sum += float64::sin(t);
-        t += step;
-        left -= 1;
-    }
-    sum
-}
-
-// C.
-#[no_mangle]
-pub extern "C" fn sum_cos(first: f64, step: f64, count: u64) -> f64 {
-    let mut sum = 0.0;
-    let mut t = first;
-    let mut left = count;
-    while 0 < left {
-        sum += float64::cos(t);
-        t += step;
-        left -= 1;
-    }
-    sum
-}
-
-// The square root.
-#[no_mangle]
-pub extern "C" fn sum_sqrt(first: f64, step: f64, count: u64) -> f64 {
-    let mut sum = 0.0;
-    let mut t = first;
-    let mut left = count;
-    while 0 < left {
-        sum += float64::sqrt(t);
-        t += step;
-        left -= 1;
-    }
-    sum
-}
+pub use breakers::sum_fastest;
+pub use floats::sum_cos;
+pub use floats::sum_exp;
+pub use floats::sum_sin;
+pub use floats::sum_sqrt;
+pub use studies::count_accepted;

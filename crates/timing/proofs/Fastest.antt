@@ -3,11 +3,11 @@ use Prim.Native.Nat.{suc, _<_}
 use native.Mathlib.Omega.{arith}
 use mathlib.Core.Path.{_≡_, refl, sym, _∙_, subst}
 use mathlib.Core.Logic.{_⊎_, inl, inr, ⊎-elim}
-use mathlib.Core.Bool.{true, false, not, true≢false}
+use mathlib.Core.Bool.{true, not}
 use mathlib.Core.List.{List, [], _∷_, foldl}
 use lib.Dec.{T, eqb}
 use lib.ListN.{length}
-use lib.Ieee.{Float, nan, inf, fin, isNan, lt, le, ofBits}
+use lib.Ieee.{Float, isNan, le}
 use lib.Ieee.Bits.{is-true}
 use borrow.Author.Tests.{eqb-true, eq-eqb}
 use Rattle.lists.specs.Scans.{every}
@@ -19,20 +19,10 @@ use Rattle.float64.proofs.Least.{min-one-of, min-le-first, min-le-second}
 use Rattle.grid.specs.Simulator.{breakersOf}
 use Rattle.grid.specs.declared.parts.DcBreaker.{DcBreaker}
 use Rattle.grid.specs.declared.simulator.DcSwitchingSimulator.{DcSwitchingSimulator}
+use Rattle.timing.proofs.NeverNan.{number, largest-number}
 use Rattle.timing.specs.Steps.{durationMs}
 use Rattle.timing.specs.Breakers.{timeOf, faster, largest, fastestOf}
 use Rattle.timing.specs.Claims.{HasTime, timed, BreakerClaims}
-
--- what is below something is a number
-number : (t c : Float) → lt t c ≡ true → T (not (isNan t))
-unfolding lt isNan
-number nan c h = absurd (true≢false (sym h))
-number (inf s) c h = tt
-number (fin s m e) c h = tt
-
-largest-number : T (not (isNan largest))
-unfolding ofBits isNan
-largest-number = tt
 
 min-number : (a b : Float) → T (not (isNan a)) → T (not (isNan b)) → T (not (isNan (minOf a b)))
 min-number a b A B = ⊎-elim (λ e. subst (λ (x : Float). T (not (isNan x))) (sym e) A) (λ e. subst (λ (x : Float). T (not (isNan x))) (sym e) B) (min-one-of a b A B)

@@ -1,6 +1,7 @@
 pub mod Ceiling
 pub mod Records
 pub mod Stepping
+pub mod NeverNan
 pub mod Fastest
 pub mod Claims
 pub mod Examples

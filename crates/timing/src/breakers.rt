@@ -1,5 +1,7 @@
 // How fast breakers clear a fault.
 ghost use mathlib.Core.Path.{_≡_};
+ghost use mathlib.Core.Bool.{cond};
+ghost use lib.Ieee.{lt};
 ghost use Rattle.timing.specs.Breakers.{clearingTimeOf, fastestOf};
 use crate::steps::duration_ms;
 use grid::DcBreakerType;
@@ -31,14 +33,23 @@ pub fn fastest_breaker_clearing_ms(g: DcSwitchingSimulator) -> f64
     if n == 0 {
         return duration_ms(g);
     }
+    // Taken out of the grid, so that no call copies the rest.
+    let breakers = g.breakers;
     // f64::MAX
     let mut fastest = 1.7976931348623157e308;
     let mut i = 0;
     while i < n {
-        let b = g.breakers[i];
+        let b = breakers[i];
         let breaker_type = b.breaker_type;
-        fastest = float64::min(fastest, breaker_clearing_time_ms(breaker_type));
+        fastest = faster_of(fastest, breaker_clearing_time_ms(breaker_type));
         i += 1;
     }
     fastest
+}
+
+// f64::min, whose test for a NaN is not needed here: the first is none.
+fn faster_of(fastest: f64, t: f64) -> f64
+    ensures { λ r. ⌜ r ≡ cond (lt t fastest) t fastest ⌝ }
+{
+    if t < fastest { t } else { fastest }
 }

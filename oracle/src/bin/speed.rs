@@ -1,6 +1,9 @@
-//! Times the library's E, S, C and square root beside the Rust's, in one run and on the same arguments, and compares the
-//! results.
+//! Times the library's E, S, C and square root and its fastest breaker beside the Rust's, in one run and on the same arguments,
+//! and compares the results; and times the library's refusals, which the Rust does not have.
 
+use oracle::dc_switching::{
+    self, fastest_clearing_ms, DcBreaker, DcBreakerType, DcSwitchingSimulator,
+};
 use oracle::draw::{self, Random};
 use oracle::jobs::{answer, OPERATIONS};
 use oracle::numbers::{alike, bits, double};
@@ -17,6 +20,8 @@ extern "C" {
     fn sum_sin(first: f64, step: f64, count: u64) -> f64;
     fn sum_cos(first: f64, step: f64, count: u64) -> f64;
     fn sum_sqrt(first: f64, step: f64, count: u64) -> f64;
+    fn sum_fastest(breakers: u64, count: u64) -> f64;
+    fn count_accepted(stations: u64, cables: u64, breakers: u64, count: u64) -> u64;
 }
 
 const ROUNDS: usize = 15;
@@ -169,6 +174,133 @@ fn table(reached: Reached) -> ([[f64; 2]; TIMED.len()], usize) {
     (best, different)
 }
 
+/// A breaker of the crate `speed`'s sample grids: the three kinds in turn.
+fn sample_breaker(id: usize, ms: f64) -> DcBreaker {
+    DcBreaker {
+        id,
+        station_id: 0,
+        breaker_type: match id % 3 {
+            0 => DcBreakerType::Mechanical {
+                opening_time_ms: ms,
+            },
+            1 => DcBreakerType::SolidState {
+                turn_off_time_us: ms * 1000.0,
+                on_state_loss_pct: 0.1,
+            },
+            _ => DcBreakerType::HybridBreaker {
+                opening_time_ms: ms,
+                commutation_time_us: ms * 900.0,
+            },
+        },
+        max_breaking_current_ka: 16.0,
+        energy_absorption_mj: 10.0,
+    }
+}
+
+fn sample_simulator(breakers: u64) -> DcSwitchingSimulator {
+    let mut simulator = DcSwitchingSimulator::new(1000.0, 100.0);
+    let mut ms = 20.0;
+    for id in 0..breakers as usize {
+        simulator.add_breaker(sample_breaker(id, ms));
+        ms += 1.0;
+    }
+    simulator
+}
+
+type Fastest = unsafe extern "C" fn(u64, u64) -> f64;
+
+/// The loop of the crate `speed`, with a call for each turn.
+extern "C" fn rust_fastest_by_call(breakers: u64, count: u64) -> f64 {
+    let mut simulator = sample_simulator(breakers);
+    let mut sum = 0.0;
+    let mut ms = 0.0;
+    let mut left = count;
+    while 0 < left {
+        simulator.breakers[0].breaker_type = DcBreakerType::Mechanical {
+            opening_time_ms: ms,
+        };
+        sum += fastest_clearing_ms(&simulator);
+        ms += 0.001;
+        left -= 1;
+    }
+    sum
+}
+
+extern "C" fn rust_fastest_in_place(breakers: u64, count: u64) -> f64 {
+    dc_switching::sum_fastest(&mut sample_simulator(breakers), count)
+}
+
+/// The Rust by call and in place, and the library, which is in place.
+const FASTEST: [Fastest; 3] = [rust_fastest_by_call, rust_fastest_in_place, sum_fastest];
+
+/// The numbers of breakers of the grids whose fastest breaker is looked for.
+const BREAKERS: [u64; 3] = [1, 8, 32];
+
+/// The stations, cables and breakers of the grids that are checked.
+const PARTS: [[u64; 3]; 3] = [[2, 1, 1], [12, 16, 8], [32, 64, 32]];
+
+/// How many of the times 0 ms, 1 ms and so on rules 4, 8 and 9 accept.
+const ACCEPTED: u64 = 100_001;
+
+/// Prints the times of the search for the fastest breaker, and says how many sums differ.
+fn fastest() -> usize {
+    let mut different = 0;
+    println!(
+        "{:<10} {:>10} {:>10} {:>9} {:>9}   ns",
+        "breakers", "by call", "in place", "library", "ratio"
+    );
+    for breakers in BREAKERS {
+        let mut best = [f64::INFINITY; FASTEST.len()];
+        let mut sums = [0.0; FASTEST.len()];
+        for round in 0..ROUNDS {
+            for turn in 0..FASTEST.len() {
+                let which = (round + turn) % FASTEST.len();
+                let (f, n, count) = (
+                    black_box(FASTEST[which]),
+                    black_box(breakers),
+                    black_box(CALLS),
+                );
+                let began = Instant::now();
+                sums[which] = unsafe { f(n, count) };
+                best[which] = best[which].min(began.elapsed().as_nanos() as f64 / CALLS as f64);
+            }
+        }
+        let [by_call, in_place, library] = best;
+        println!(
+            "{breakers:<10} {by_call:>10.1} {in_place:>10.1} {library:>9.1} {:>9.2}",
+            library / in_place
+        );
+        if sums.map(bits) != [bits(sums[0]); FASTEST.len()] {
+            different += 1;
+            println!("the sums of {breakers} breakers differ");
+        }
+    }
+    different
+}
+
+/// Prints the times of a fault run's refusals, and says how many counts are wrong.
+fn refusals() -> usize {
+    let mut different = 0;
+    println!("{:<10} {:>20}   ns", "parts", "library");
+    for [stations, cables, breakers] in PARTS {
+        let mut best = f64::INFINITY;
+        for _ in 0..ROUNDS {
+            let (s, c, b) = (black_box(stations), black_box(cables), black_box(breakers));
+            let began = Instant::now();
+            black_box(unsafe { count_accepted(s, c, b, CALLS) });
+            best = best.min(began.elapsed().as_nanos() as f64 / CALLS as f64);
+        }
+        let parts = format!("{stations}/{cables}/{breakers}");
+        println!("{parts:<10} {best:>20.1}");
+        let accepted = unsafe { count_accepted(stations, cables, breakers, ACCEPTED + 100) };
+        if accepted != ACCEPTED {
+            different += 1;
+            println!("{accepted} accepted, and not {ACCEPTED}");
+        }
+    }
+    different
+}
+
 fn main() {
     let mut different = singles();
     for (title, reached) in [("in place", Reached::InPlace), ("by call", Reached::ByCall)] {
@@ -188,6 +320,7 @@ fn main() {
         let [root, e] = [best[0][1], best[1][1]];
         println!("a root takes {:.2} of the time of two E", root / (2.0 * e));
     }
+    different += fastest() + refusals();
     println!("{different} results differ");
     exit(if different == 0 { 0 } else { 1 });
 }

@@ -12,12 +12,12 @@ use Rattle.rules.proofs.part_checks.first_bad_breaker.Statement.{statem
 use Rattle.rules.proofs.part_checks.first_bad_breaker.Tie as tie
 
 abbrev Inv-loop : tie.InvT-loop
-Inv-loop g n i₀ i = (i ≤ n) × (every breakerOk (take i (g .breakers)) ≡ true)
+Inv-loop n breakers i₀ i = (i ≤ n) × (every breakerOk (take i breakers) ≡ true)
 
 abbrev μ-loop : tie.MeasureT-loop
-μ-loop g n i₀ i = n - i
+μ-loop n breakers i₀ i = n - i
 
-long : (c : tie.Start Inv-loop μ-loop) → length (c .args .t1 .breakers) ≡ 32
+long : (c : tie.Start Inv-loop μ-loop) → length (c .args .g .breakers) ≡ 32
 long c = search (needs, unmapped)
 
 present-requires : tie.Need-present-requires Inv-loop μ-loop
@@ -29,8 +29,8 @@ loop-holds c = search needs
 mul-b : tie.Need-mul-b Inv-loop μ-loop
 mul-b c = omega arith
 
-element-copy-out-b : tie.Need-element-copy-out-b Inv-loop μ-loop
-element-copy-out-b c = omega arith
+array-copy-out-b : tie.Need-array-copy-out-b Inv-loop μ-loop
+array-copy-out-b c = omega arith
 
 check-breaker-requires : tie.Need-check-breaker-requires Inv-loop μ-loop
 check-breaker-requires c κs = search needs
@@ -44,17 +44,17 @@ loop-less c = omega arith
 loop-again : tie.Need-loop-again Inv-loop μ-loop
 loop-again c =
     let a = c .before .before .before .before in
-    (omega arith, more breakerOk _ (a .before .before .args .t1 .breakers) (a .loop .i) (omega (arith, long (a .before .before))) (a .loop .inv .1) (sym (c .before .check-breaker .ensures) ∙ c .if1 .taken))
+    (omega arith, more breakerOk _ (a .before .before .before .args .g .breakers) (a .loop .i) (omega (arith, long (a .before .before .before))) (a .loop .inv .1) (sym (c .before .check-breaker .ensures) ∙ c .if1 .taken))
 
 returns : tie.Need-returns Inv-loop μ-loop
 returns c =
     let a = c .before .before .before .before in
-    sym (passing-at breakerOk _ (a .before .before .args .t1 .breakers) (a .loop .i) (a .before .before .args .t1 .«n_breakers») (omega arith) (omega (arith, long (a .before .before))) (a .loop .inv .1) (sym (c .before .check-breaker .ensures) ∙ c .if1 .left))
+    sym (passing-at breakerOk _ (a .before .before .before .args .g .breakers) (a .loop .i) (a .before .before .before .args .g .«n_breakers») (omega arith) (omega (arith, long (a .before .before .before))) (a .loop .inv .1) (sym (c .before .check-breaker .ensures) ∙ c .if1 .left))
 
 returns-2 : tie.Need-returns-2 Inv-loop μ-loop
 returns-2 c =
     let a = c .before in
-    passing-end breakerOk (a .before .before .args .t1 .breakers) (a .before .before .args .t1 .«n_breakers») 32 (a .loop .i) _ (long (a .before .before)) (a .before .present .ensures) (a .loop .inv .0) (omega arith) (a .loop .inv .1)
+    passing-end breakerOk (a .before .before .before .args .g .breakers) (a .before .before .before .args .g .«n_breakers») 32 (a .loop .i) _ (long (a .before .before .before)) (a .before .before .present .ensures) (a .loop .inv .0) (omega arith) (a .loop .inv .1)
 
 pub first-bad-breaker-spec : {M : Type 1} → statement M
 first-bad-breaker-spec =
@@ -65,7 +65,7 @@ first-bad-breaker-spec =
     present-requires
     loop-holds
     mul-b
-    element-copy-out-b
+    array-copy-out-b
     check-breaker-requires
     add-i
     loop-less

@@ -12,12 +12,12 @@ use Rattle.rules.proofs.part_checks.first_bad_cable.Statement.{statemen
 use Rattle.rules.proofs.part_checks.first_bad_cable.Tie as tie
 
 abbrev Inv-loop : tie.InvT-loop
-Inv-loop g n i₀ i = (i ≤ n) × (every cableOk (take i (g .cables)) ≡ true)
+Inv-loop n cables i₀ i = (i ≤ n) × (every cableOk (take i cables) ≡ true)
 
 abbrev μ-loop : tie.MeasureT-loop
-μ-loop g n i₀ i = n - i
+μ-loop n cables i₀ i = n - i
 
-long : (c : tie.Start Inv-loop μ-loop) → length (c .args .t1 .cables) ≡ 64
+long : (c : tie.Start Inv-loop μ-loop) → length (c .args .g .cables) ≡ 64
 long c = search (needs, unmapped)
 
 present-requires : tie.Need-present-requires Inv-loop μ-loop
@@ -29,8 +29,8 @@ loop-holds c = search needs
 mul-c : tie.Need-mul-c Inv-loop μ-loop
 mul-c c = omega arith
 
-element-copy-out-c : tie.Need-element-copy-out-c Inv-loop μ-loop
-element-copy-out-c c = omega arith
+array-copy-out-c : tie.Need-array-copy-out-c Inv-loop μ-loop
+array-copy-out-c c = omega arith
 
 check-cable-requires : tie.Need-check-cable-requires Inv-loop μ-loop
 check-cable-requires c κs = search needs
@@ -44,17 +44,17 @@ loop-less c = omega arith
 loop-again : tie.Need-loop-again Inv-loop μ-loop
 loop-again c =
     let a = c .before .before .before .before in
-    (omega arith, more cableOk _ (a .before .before .args .t1 .cables) (a .loop .i) (omega (arith, long (a .before .before))) (a .loop .inv .1) (sym (c .before .check-cable .ensures) ∙ c .if1 .taken))
+    (omega arith, more cableOk _ (a .before .before .before .args .g .cables) (a .loop .i) (omega (arith, long (a .before .before .before))) (a .loop .inv .1) (sym (c .before .check-cable .ensures) ∙ c .if1 .taken))
 
 returns : tie.Need-returns Inv-loop μ-loop
 returns c =
     let a = c .before .before .before .before in
-    sym (passing-at cableOk _ (a .before .before .args .t1 .cables) (a .loop .i) (a .before .before .args .t1 .«n_cables») (omega arith) (omega (arith, long (a .before .before))) (a .loop .inv .1) (sym (c .before .check-cable .ensures) ∙ c .if1 .left))
+    sym (passing-at cableOk _ (a .before .before .before .args .g .cables) (a .loop .i) (a .before .before .before .args .g .«n_cables») (omega arith) (omega (arith, long (a .before .before .before))) (a .loop .inv .1) (sym (c .before .check-cable .ensures) ∙ c .if1 .left))
 
 returns-2 : tie.Need-returns-2 Inv-loop μ-loop
 returns-2 c =
     let a = c .before in
-    passing-end cableOk (a .before .before .args .t1 .cables) (a .before .before .args .t1 .«n_cables») 64 (a .loop .i) _ (long (a .before .before)) (a .before .present .ensures) (a .loop .inv .0) (omega arith) (a .loop .inv .1)
+    passing-end cableOk (a .before .before .before .args .g .cables) (a .before .before .before .args .g .«n_cables») 64 (a .loop .i) _ (long (a .before .before .before)) (a .before .before .present .ensures) (a .loop .inv .0) (omega arith) (a .loop .inv .1)
 
 pub first-bad-cable-spec : {M : Type 1} → statement M
 first-bad-cable-spec =
@@ -65,7 +65,7 @@ first-bad-cable-spec =
     present-requires
     loop-holds
     mul-c
-    element-copy-out-c
+    array-copy-out-c
     check-cable-requires
     add-i
     loop-less

@@ -12,12 +12,12 @@ use Rattle.rules.proofs.part_checks.first_bad_station.Statement.{statem
 use Rattle.rules.proofs.part_checks.first_bad_station.Tie as tie
 
 abbrev Inv-loop : tie.InvT-loop
-Inv-loop g n i₀ i = (i ≤ n) × (every stationOk (take i (g .stations)) ≡ true)
+Inv-loop n stations i₀ i = (i ≤ n) × (every stationOk (take i stations) ≡ true)
 
 abbrev μ-loop : tie.MeasureT-loop
-μ-loop g n i₀ i = n - i
+μ-loop n stations i₀ i = n - i
 
-long : (c : tie.Start Inv-loop μ-loop) → length (c .args .t1 .stations) ≡ 32
+long : (c : tie.Start Inv-loop μ-loop) → length (c .args .g .stations) ≡ 32
 long c = search (needs, unmapped)
 
 present-requires : tie.Need-present-requires Inv-loop μ-loop
@@ -29,8 +29,8 @@ loop-holds c = search needs
 mul-s : tie.Need-mul-s Inv-loop μ-loop
 mul-s c = omega arith
 
-element-copy-out-s : tie.Need-element-copy-out-s Inv-loop μ-loop
-element-copy-out-s c = omega arith
+array-copy-out-s : tie.Need-array-copy-out-s Inv-loop μ-loop
+array-copy-out-s c = omega arith
 
 check-station-requires : tie.Need-check-station-requires Inv-loop μ-loop
 check-station-requires c κs = search needs
@@ -44,17 +44,17 @@ loop-less c = omega arith
 loop-again : tie.Need-loop-again Inv-loop μ-loop
 loop-again c =
     let a = c .before .before .before .before in
-    (omega arith, more stationOk _ (a .before .before .args .t1 .stations) (a .loop .i) (omega (arith, long (a .before .before))) (a .loop .inv .1) (sym (c .before .check-station .ensures) ∙ c .if1 .taken))
+    (omega arith, more stationOk _ (a .before .before .before .args .g .stations) (a .loop .i) (omega (arith, long (a .before .before .before))) (a .loop .inv .1) (sym (c .before .check-station .ensures) ∙ c .if1 .taken))
 
 returns : tie.Need-returns Inv-loop μ-loop
 returns c =
     let a = c .before .before .before .before in
-    sym (passing-at stationOk _ (a .before .before .args .t1 .stations) (a .loop .i) (a .before .before .args .t1 .«n_stations») (omega arith) (omega (arith, long (a .before .before))) (a .loop .inv .1) (sym (c .before .check-station .ensures) ∙ c .if1 .left))
+    sym (passing-at stationOk _ (a .before .before .before .args .g .stations) (a .loop .i) (a .before .before .before .args .g .«n_stations») (omega arith) (omega (arith, long (a .before .before .before))) (a .loop .inv .1) (sym (c .before .check-station .ensures) ∙ c .if1 .left))
 
 returns-2 : tie.Need-returns-2 Inv-loop μ-loop
 returns-2 c =
     let a = c .before in
-    passing-end stationOk (a .before .before .args .t1 .stations) (a .before .before .args .t1 .«n_stations») 32 (a .loop .i) _ (long (a .before .before)) (a .before .present .ensures) (a .loop .inv .0) (omega arith) (a .loop .inv .1)
+    passing-end stationOk (a .before .before .before .args .g .stations) (a .before .before .before .args .g .«n_stations») 32 (a .loop .i) _ (long (a .before .before .before)) (a .before .before .present .ensures) (a .loop .inv .0) (omega arith) (a .loop .inv .1)
 
 pub first-bad-station-spec : {M : Type 1} → statement M
 first-bad-station-spec =
@@ -65,7 +65,7 @@ first-bad-station-spec =
     present-requires
     loop-holds
     mul-s
-    element-copy-out-s
+    array-copy-out-s
     check-station-requires
     add-i
     loop-less

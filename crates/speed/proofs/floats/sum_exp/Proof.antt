@@ -1,7 +1,7 @@
--- `sum_cos` ends: fewer turns are left after each. Assumes nothing.
+-- `sum_exp` ends: fewer turns are left after each. Assumes nothing.
 use borrow.Author.Needs.{needs}
-use Rattle.speed.proofs.sum_cos.Statement.{statement}
-use Rattle.speed.proofs.sum_cos.Tie as tie
+use Rattle.speed.proofs.floats.sum_exp.Statement.{statement}
+use Rattle.speed.proofs.floats.sum_exp.Tie as tie
 
 abbrev Inv-loop : tie.InvT-loop
 Inv-loop first step count sum₀ t₀ left₀ sum t left = Unit {0}
@@ -12,8 +12,8 @@ abbrev μ-loop : tie.MeasureT-loop
 loop-holds : tie.Need-loop-holds Inv-loop μ-loop
 loop-holds c = tt
 
-cos-requires : tie.Need-cos-requires Inv-loop μ-loop
-cos-requires c κs = search needs
+exp-requires : tie.Need-exp-requires Inv-loop μ-loop
+exp-requires c κs = search needs
 
 sub-left : tie.Need-sub-left Inv-loop μ-loop
 sub-left c = search needs
@@ -27,7 +27,7 @@ loop-again c = tt
 returns : tie.Need-returns Inv-loop μ-loop
 returns c = search needs
 
-pub sum-cos-spec : {M : Type 1} → statement M
-sum-cos-spec =
+pub sum-exp-spec : {M : Type 1} → statement M
+sum-exp-spec =
     tie.close
-    (tie.spec Inv-loop μ-loop loop-holds cos-requires sub-left loop-less loop-again returns)
+    (tie.spec Inv-loop μ-loop loop-holds exp-requires sub-left loop-less loop-again returns)

@@ -1,7 +1,7 @@
 -- `sum_sin` ends: fewer turns are left after each. Assumes nothing.
 use borrow.Author.Needs.{needs}
-use Rattle.speed.proofs.sum_sin.Statement.{statement}
-use Rattle.speed.proofs.sum_sin.Tie as tie
+use Rattle.speed.proofs.floats.sum_sin.Statement.{statement}
+use Rattle.speed.proofs.floats.sum_sin.Tie as tie
 
 abbrev Inv-loop : tie.InvT-loop
 Inv-loop first step count sum₀ t₀ left₀ sum t left = Unit {0}
