@@ -1,8 +1,9 @@
 -- The smaller of two doubles, neither a NaN: it is one of them, and at most each. Assumes nothing.
-use mathlib.Core.Path.{_≡_, refl, _∙_}
+use mathlib.Core.Path.{_≡_, _∙_}
 use mathlib.Core.Logic.{_⊎_, inl, inr}
-use mathlib.Core.Bool.{Bool, true, false, not}
+use mathlib.Core.Bool.{true, false, not}
 use lib.Dec.{T}
+use lib.Ieee.Bits.{is-false}
 use lib.Ieee.{Float, isNan, ne, lt, le}
 use Rattle.lists.proofs.Counting.{by-test}
 use Rattle.float64.specs.Choice.{minOf}
@@ -10,13 +11,9 @@ use Rattle.float64.proofs.Order.{le-of-not-lt, le-of-lt, le-refl-float}
 use Rattle.float64.proofs.Tests.{ne-self}
 use Rattle.float64.proofs.Choosing.{min-is}
 
-not-true : (b : Bool) → T (not b) → b ≡ false
-not-true true h = absurd h
-not-true false h = refl
-
 module _ (a b : Float) (A : T (not (isNan a))) (B : T (not (isNan b))) where
   number : ne a a ≡ false
-  number = ne-self a ∙ not-true (isNan a) A
+  number = ne-self a ∙ is-false (isNan a) A
 
   second : lt b a ≡ true → minOf a b ≡ b
   second h = rw (min-is a b, number, h)

@@ -1,4 +1,4 @@
--- What document 01 says of ranges and steps in words, and what a reader expects beside the definitions. The proofs are in proofs/Claims.antt.
+-- What document 01 says of ranges in words, and what a reader expects beside the definitions. The proofs are in proofs/Claims.antt.
 use mathlib.Core.Path.{_≡_}
 use mathlib.Core.Bool.{true, false}
 use Prim.Native.Nat.{ℕ, _-_, _^_, _≤_, _<_}

@@ -1,6 +1,6 @@
 -- What a loop that counts up by one knows where it is left, and how a number compares with another. Assumes nothing.
 use mathlib.Core.Path.{_≡_, refl, sym, ap, _∙_}
-use mathlib.Core.Bool.{Bool, true, false}
+use mathlib.Core.Bool.{Bool, true, false, true≢false}
 use mathlib.Core.Logic.{_⊎_, inl, inr}
 use Prim.Native.Nat.{ℕ, _≤_, _<_}
 use native.Mathlib.Nat.{le-antisymm}
@@ -45,3 +45,7 @@ compared a b = by (ltb a b) (ltb b a) refl refl
 pub by-test {ℓ} : {P : Type ℓ} (b : Bool) → (b ≡ true → P) → (b ≡ false → P) → P
 by-test true f g = f refl
 by-test false f g = g refl
+
+-- a test that passes and fails
+pub contrary {ℓ} : {P : Type ℓ} {b : Bool} → b ≡ true → b ≡ false → P
+contrary h k = absurd (true≢false (sym h ∙ k))

@@ -6,7 +6,7 @@ use native.Mathlib.Omega.{arith}
 use borrow.Author.Tests.{lt-ltb}
 use mathlib.Core.Path.{_≡_, refl, sym, ap, _∙_}
 use mathlib.Core.Logic.{⊎-elim}
-use mathlib.Core.Bool.{Bool, true, false, not, _&&_}
+use mathlib.Core.Bool.{Bool, true, false, not, _&&_, _||_}
 use mathlib.Core.List.{List, [], _∷_, map}
 use lib.Dec.{ltb, leb·suc-suc}
 use lib.ListN.{length, getD, take, length-map, length-take}
@@ -20,6 +20,10 @@ and-second false b h = refl
 
 pub and-first : (a b : Bool) → a ≡ false → (a && b) ≡ false
 and-first a b h = rw h
+
+pub or-second : (a b : Bool) → b ≡ true → (a || b) ≡ true
+or-second true b h = refl
+or-second false b h = h
 
 pub both : (a b : Bool) → a ≡ true → b ≡ true → (a && b) ≡ true
 both a b h k = rw (h, k)

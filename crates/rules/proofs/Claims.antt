@@ -5,7 +5,7 @@ use mathlib.Core.Path.{_≡_, refl, sym, ap, _∙_}
 use mathlib.Core.Logic.{_↔_}
 use mathlib.Core.Bool.{Bool, true, false, not}
 use mathlib.Core.List.{List, [], _∷_}
-use borrow.Author.Tests.{ltb-false}
+use borrow.Author.Tests.{ltb-false, not-true, not-false}
 use lib.Dec.{ltb}
 use lib.ListN.{getD}
 use Rattle.lists.specs.Scans.{every}
@@ -23,7 +23,7 @@ use Rattle.grid.specs.declared.simulator.DcSwitchingSimulator.{DcSwitchingSimul
 use Rattle.rules.specs.declared.studies.Verdict.{Verdict}
 use Rattle.rules.specs.declared.studies.Verdict.the-variants.{Accepted, NoStation, NoCable, TooManyParts, TimeOutside, TooManySteps, StationOutside, CableOutside, BreakerOutside, EventOutside}
 use Rattle.rules.proofs.AcceptedTimes.{accepted-timed}
-use Rattle.rules.proofs.Deciding.{decides, not-true}
+use Rattle.rules.proofs.Deciding.{decides}
 
 -- ---- refusals
 
@@ -108,10 +108,6 @@ accepted-claims =
 all-timed : (g : DcSwitchingSimulator) → breakerOutside g ≡ false → every timed (breakersOf g) ≡ true
 unfolding breakerOutside
 all-timed g h = every-of breakerOk timed accepted-timed (breakersOf g) (not-false (every breakerOk (breakersOf g)) h)
-  where
-    not-false : (b : Bool) → not b ≡ false → b ≡ true
-    not-false true e = refl
-    not-false false e = sym e
 
 pub fastest-claims : FastestClaims
 fastest-claims =

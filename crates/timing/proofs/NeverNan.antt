@@ -1,8 +1,9 @@
 -- The fastest time so far is never a NaN, whatever the breakers' times are: one comparison takes the smaller. Assumes nothing.
-use mathlib.Core.Path.{_≡_, refl, sym, subst}
-use mathlib.Core.Bool.{Bool, true, false, not, cond, true≢false}
+use mathlib.Core.Path.{_≡_, sym, subst}
+use mathlib.Core.Bool.{true, false, not, cond, true≢false}
 use mathlib.Core.List.{List, [], _∷_, foldl}
 use lib.Dec.{T}
+use lib.Ieee.Bits.{is-false}
 use lib.Ieee.{Float, nan, inf, fin, isNan, lt, ofBits}
 use Rattle.lists.proofs.Counting.{by-test}
 use Rattle.float64.specs.Choice.{minOf}
@@ -22,12 +23,8 @@ pub largest-number : T (not (isNan largest))
 unfolding ofBits isNan
 largest-number = tt
 
-not-true : (b : Bool) → T (not b) → b ≡ false
-not-true true h = absurd h
-not-true false h = refl
-
 pub by-one-test : (t a : Float) → T (not (isNan a)) → cond (lt t a) t a ≡ minOf a t
-by-one-test t a A = sym (rw (min-is a t, ne-self a, not-true (isNan a) A))
+by-one-test t a A = sym (rw (min-is a t, ne-self a, is-false (isNan a) A))
 
 -- the smaller is no NaN either: what is below a is a number
 kept : (t a : Float) → T (not (isNan a)) → T (not (isNan (minOf a t)))

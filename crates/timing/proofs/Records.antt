@@ -6,12 +6,9 @@ use mathlib.Core.Path.{_≡_, refl, sym, ap, _∙_}
 use mathlib.Core.Bool.{Bool, true, false, _||_, cond}
 use borrow.Author.Tests.{eq-eqb, ne-eqb}
 use lib.Dec.{eqb}
+use Rattle.lists.proofs.Scanning.{or-second}
 use Rattle.timing.specs.Steps.{intervalOf, recorded, countBelow, recordsOf}
 use Rattle.timing.proofs.Ceiling.{ceiling, ceiling-le, multiples, count-alike}
-
-pub or-true : (a b : Bool) → b ≡ true → (a || b) ≡ true
-or-true true b e = refl
-or-true false b e = e
 
 or-false : (a b : Bool) → b ≡ false → (a || b) ≡ a
 or-false true b e = refl
@@ -24,7 +21,7 @@ interval-above n = omega arith
 pub records-are : (n : ℕ) → recordsOf (suc n) ≡ 1 + ceiling n (intervalOf (suc n))
 unfolding countBelow
 records-are n =
-    ap (λ (b : Bool). cond b 1 0 + countBelow (recorded (suc n)) n) (or-true (eqb (n % intervalOf (suc n)) 0) (eqb n (suc n - 1)) (eq-eqb n (suc n - 1) (omega arith)))
+    ap (λ (b : Bool). cond b 1 0 + countBelow (recorded (suc n)) n) (or-second (eqb (n % intervalOf (suc n)) 0) (eqb n (suc n - 1)) (eq-eqb n (suc n - 1) (omega arith)))
     ∙ ap (λ (x : ℕ). 1 + x) (count-alike (recorded (suc n)) (λ s. eqb (s % intervalOf (suc n)) 0) n (λ s l. or-false (eqb (s % intervalOf (suc n)) 0) (eqb s (suc n - 1)) (ne-eqb s (suc n - 1) (λ e. omega arith)))
     ∙ multiples (intervalOf (suc n)) n (interval-above (suc n)))
 

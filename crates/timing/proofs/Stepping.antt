@@ -4,7 +4,7 @@ use native.Mathlib.Nat.{mul-one, div-add-mod', div-le-of-le-mul, le-trans, le-di
 use native.Mathlib.Omega.{arith}
 use mathlib.Core.Path.{_≡_, refl, sym, _∙_}
 use mathlib.Core.Logic.{⊎-elim}
-use mathlib.Core.Bool.{Bool, true, false, not, true≢false}
+use mathlib.Core.Bool.{Bool, true, false, not}
 use borrow.Author.Tests.{lt-ltb, le-ltb, ltb-true, ltb-false, eq-eqb, ne-eqb}
 use lib.Dec.{T, ltb, le→leb}
 use lib.IntN.{ℤ, pos}
@@ -12,7 +12,7 @@ use lib.Ieee.{Float, nan, inf, fin, binary64, up, down, ofBits, ofInt, round, lt
 use lib.Ieee.Back.{round-whole, unsigned-back}
 use lib.Ieee.Exact.{HasValue}
 use lib.Ieee.Fits.{down-pos}
-use Rattle.lists.proofs.Counting.{lt-or-le}
+use Rattle.lists.proofs.Counting.{lt-or-le, contrary}
 use Rattle.float64.specs.Constants.{one}
 use Rattle.float64.specs.Wave.{wholePart}
 use Rattle.float64.proofs.Tests.{lt-nan}
@@ -75,15 +75,12 @@ one-lt m e = rw one-is (whole-lt 1 m e (omega arith))
 million-lt : (m : ℕ) (e : ℤ) → lt million (fin false m e) ≡ ltb (1000000 * down e) (m * up e)
 million-lt m e = rw million-is (whole-lt 1000000 m e (omega arith))
 
-clash : {P : Type 0} {b : Bool} → b ≡ true → b ≡ false → P
-clash a b = absurd (true≢false (sym a ∙ b))
-
 between : (q : Float) → lt one q ≡ true → lt million q ≡ false → Between q
 unfolding roundedUp wholePart ofInt isNan
-between nan a b = clash a (lt-nan one nan tt)
-between (inf true) a b = clash a (one-inf true)
-between (inf false) a b = clash (million-inf false) b
-between (fin true m e) a b = clash a (one-below m e)
+between nan a b = contrary a (lt-nan one nan tt)
+between (inf true) a b = contrary a (one-inf true)
+between (inf false) a b = contrary (million-inf false) b
+between (fin true m e) a b = contrary a (one-below m e)
 between (fin false m e) a b =
     record {
       n = m * up e;
@@ -99,10 +96,10 @@ between (fin false m e) a b =
 -- past the limit
 pub past-limit : (q : Float) → lt million q ≡ true → mostSteps + 1 ≡ countedTo (stepsOfQuotient q)
 unfolding roundedUp isNan
-past-limit nan a = clash a (lt-nan million nan tt)
-past-limit (inf true) a = clash a (million-inf true)
+past-limit nan a = contrary a (lt-nan million nan tt)
+past-limit (inf true) a = contrary a (million-inf true)
 past-limit (inf false) a = refl
-past-limit (fin true m e) a = clash a (million-below m e)
+past-limit (fin true m e) a = contrary a (million-below m e)
 past-limit (fin false m e) a =
     let h : 1000000 * down e < m * up e = ltb-true _ _ (sym (million-lt m e) ∙ a) in
     let c : 1000000 < ceiling (m * up e) (down e) = ⊎-elim (λ l. l) (λ l. absurd (apart h (le-trans (ceiling-reaches (m * up e) (down e) (down-pos e)) (mul-le-mul-right (down e) l)))) (lt-or-le 1000000 (ceiling (m * up e) (down e))) in
@@ -119,7 +116,7 @@ pub single-step : (q : Float) → lt one q ≡ false → lt million q ≡ false 
 unfolding roundedUp
 single-step nan a b = refl
 single-step (inf true) a b = refl
-single-step (inf false) a b = clash (one-inf false) a
+single-step (inf false) a b = contrary (one-inf false) a
 single-step (fin true m e) a b = refl
 single-step (fin false m e) a b =
     let h : m * up e ≤ 1 * down e = ltb-false _ _ (sym (one-lt m e) ∙ a) in

@@ -1,4 +1,4 @@
--- What document 01 says of steps and breaker times in words, and what a reader expects beside the definitions. The proofs are in proofs/Claims.antt.
+-- What document 01 says of steps and breaker times in words, and what a reader expects beside the definitions. The proofs are in proofs/Claims.antt and proofs/Fastest.antt.
 use mathlib.Core.Path.{_≡_}
 use mathlib.Core.Bool.{Bool, true, false}
 use mathlib.Core.List.{List}
