@@ -11,7 +11,7 @@ use Rattle.grid.specs.Ranges.{realIn, wholeIn}
 use Rattle.rules.specs.PartChecks.{topologyOk, stationOk, cableOk, breakerTypeOk, breakerOk, faultOk, orderOk}
 use Rattle.grid.specs.Simulator.{blankStation, blankCable, blankBreaker, newSimulator, withStation, withCable, withBreaker, keptTimeStep, keptDuration}
 use Rattle.timing.specs.Steps.{roundedUp, stepsOf}
-use Rattle.rules.specs.Studies.{order, first, broken, tooManyParts, timeOutside, tooManySteps, stationOutside, cableOutside, breakerOutside, flowOrder, switchingOrder, faultOrder, flowRefusal, switchingRefusal, faultRefusal, sweepRefusal, pointRefusal}
+use Rattle.rules.specs.Studies.{order, first, broken, tooManyParts, timeOutside, tooManySteps, stationOutside, cableOutside, breakerOutside, flowOrder, detectionOrder, switchingOrder, faultOrder, flowRefusal, detectionRefusal, switchingRefusal, faultRefusal, sweepRefusal, pointRefusal}
 use Rattle.grid.specs.declared.parts.ConverterTopology.the-variants.{Mmc}
 use Rattle.grid.specs.declared.parts.DcFaultType.the-variants.{PoleToGround}
 use Rattle.grid.specs.declared.parts.ConverterStation.{ConverterStation}
@@ -19,9 +19,9 @@ use Rattle.grid.specs.declared.parts.DcFaultEvent.{DcFaultEvent}
 use Rattle.grid.specs.declared.parts.SweepOrder.{SweepOrder}
 use Rattle.grid.specs.declared.simulator.DcSwitchingSimulator.{DcSwitchingSimulator}
 
--- the orders of 01, written out
-orders-are : (flowOrder ≡ 3 ∷ 1 ∷ 6 ∷ 7 ∷ 8 ∷ []) × (switchingOrder ≡ 3 ∷ 1 ∷ 4 ∷ 5 ∷ 6 ∷ 7 ∷ 8 ∷ []) × (faultOrder ≡ 3 ∷ 1 ∷ 2 ∷ 4 ∷ 5 ∷ 6 ∷ 7 ∷ 8 ∷ 9 ∷ [])
-orders-are = (refl, refl, refl)
+-- the orders of 01, written out; detection checks what flow does
+orders-are : (flowOrder ≡ 3 ∷ 1 ∷ 6 ∷ 7 ∷ 8 ∷ []) × (detectionOrder ≡ flowOrder) × (switchingOrder ≡ 3 ∷ 1 ∷ 4 ∷ 5 ∷ 6 ∷ 7 ∷ 8 ∷ []) × (faultOrder ≡ 3 ∷ 1 ∷ 2 ∷ 4 ∷ 5 ∷ 6 ∷ 7 ∷ 8 ∷ 9 ∷ [])
+orders-are = (refl, refl, refl, refl)
 
 -- 3 before 1, and 0 where none applies
 first-are : (first (λ k. eqb k 1 || eqb k 3) order ≡ 3) × (first (λ k. eqb k 9 || eqb k 10) order ≡ 9) × (first (λ k. false) order ≡ 0)
@@ -48,7 +48,7 @@ fault = record { «fault_type» = PoleToGround; «location_cable_id» = 0; «loc
 tenths : ℕ → ℕ → SweepOrder
 tenths l h = record { «fault_resistance» = nought; «inception_time_ms» = nought; «low_tenth» = l; «high_tenth» = h }
 
-refusals-are : (flowRefusal none ≡ 1) × (flowRefusal some ≡ 0) × (flowRefusal many ≡ 3) × (switchingRefusal some ≡ 0) × (faultRefusal some fault ≡ 9) × (faultRefusal many fault ≡ 3)
+refusals-are : (flowRefusal none ≡ 1) × (flowRefusal some ≡ 0) × (flowRefusal many ≡ 3) × (detectionRefusal none ≡ 1) × (detectionRefusal some ≡ 0) × (detectionRefusal many ≡ 3) × (switchingRefusal some ≡ 0) × (faultRefusal some fault ≡ 9) × (faultRefusal many fault ≡ 3)
     × (sweepRefusal some (tenths 0 10) ≡ 0) × (sweepRefusal some (tenths 4 3) ≡ 9) × (sweepRefusal some (tenths 0 11) ≡ 9) × (pointRefusal station ≡ 0) × (pointRefusal blankStation ≡ 6)
-unfolding flowRefusal switchingRefusal faultRefusal sweepRefusal pointRefusal first broken tooManyParts timeOutside tooManySteps stationOutside cableOutside breakerOutside none some many fault tenths station stepsOf newSimulator withStation withCable withBreaker keptTimeStep keptDuration realIn wholeIn topologyOk stationOk cableOk breakerTypeOk breakerOk faultOk orderOk le lt eq ofInt ofBits round maxOf isNan div roundedUp
-refusals-are = (refl, refl, refl, refl, refl, refl, refl, refl, refl, refl, refl)
+unfolding flowRefusal detectionRefusal switchingRefusal faultRefusal sweepRefusal pointRefusal first broken tooManyParts timeOutside tooManySteps stationOutside cableOutside breakerOutside none some many fault tenths station stepsOf newSimulator withStation withCable withBreaker keptTimeStep keptDuration realIn wholeIn topologyOk stationOk cableOk breakerTypeOk breakerOk faultOk orderOk le lt eq ofInt ofBits round maxOf isNan div roundedUp
+refusals-are = (refl, refl, refl, refl, refl, refl, refl, refl, refl, refl, refl, refl, refl, refl)
