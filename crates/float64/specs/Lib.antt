@@ -1,4 +1,5 @@
 pub mod Constants
+pub mod Arithmetic
 pub mod Choice
 pub mod Angle
 pub mod Root

@@ -2,7 +2,7 @@
 use mathlib.Core.Path.{_≡_, refl, sym, _∙_}
 use mathlib.Core.Bool.{cond}
 use mathlib.Core.Logic.{⊎-elim}
-use mathlib.Core.List.{List, []}
+use mathlib.Core.List.{List, [], _∷_}
 use Prim.Native.Nat.{ℕ, zero, suc, _+_, _≤_, _<_}
 use native.Mathlib.Nat.{not-suc-le-zero, eq-or-lt-of-le, le-of-suc-le-suc}
 use native.Mathlib.Numerals.{add-one}
@@ -11,7 +11,7 @@ use borrow.Author.Tests.{lt-ltb, le-ltb}
 use lib.Dec.{ltb}
 use lib.ListN.{length, getD, set, replicate, length-set, length-append, length-replicate, getD-replicate, List·getD-append}
 use lib.Seq.{getD-set-same, getD-set-other, ext-getD, getD-at}
-use Rattle.lists.specs.Tables.{tab, blank, over}
+use Rattle.lists.specs.Tables.{tab, blank, over, padded}
 use Rattle.lists.proofs.Counting.{lt-or-le}
 
 module _ {ℓ} {A : Type ℓ} where
@@ -28,6 +28,12 @@ module _ {ℓ} {A : Type ℓ} where
   pub upto-more : (f : ℕ → A) (d : List A) {x : List A} {v : A} (i : ℕ) → x ≡ upto i f d → v ≡ f i → set x i v ≡ upto (i + 1) f d
   unfolding upto
   upto-more f d i e h = rw (add-one, e, h)
+
+  -- an array that is z everywhere has its first element as it is to be, where that is z
+  pub upto-first : (m : ℕ) (f : ℕ → A) (z : A) → f 0 ≡ z → blank m z ≡ upto 1 f (blank m z)
+  unfolding upto blank
+  upto-first zero f z e = refl
+  upto-first (suc m) f z e = rw e
 
   pub length-upto : (n : ℕ) (f : ℕ → A) (d : List A) → length (upto n f d) ≡ length d
   unfolding upto
@@ -103,3 +109,62 @@ module _ {ℓ} {A : Type ℓ} where
       (λ e. rw e (getD-set-same x i v z l ∙ h))
       (λ lt. getD-set-other x i j v z (λ e. omega arith) ∙ all j lt)
       (eq-or-lt-of-le (let q : j ≤ i = omega arith in q))
+
+  -- two tables that agree at each index
+  pub tab-same : (n : ℕ) (f g : ℕ → A) → ((k : ℕ) → k < n → f k ≡ g k) → tab n f ≡ tab n g
+  unfolding tab
+  tab-same zero f g h = refl
+  tab-same (suc n) f g h = rw (tab-same n f g (λ k l. h k (omega arith)), h n (omega arith))
+
+  -- a filled array of which the rest is as it was made
+  pub upto-padded : (n m : ℕ) (f : ℕ → A) (z : A) → n ≤ m → upto n f (blank m z) ≡ padded m n f z
+  unfolding padded blank
+  upto-padded n m f z l =
+      is-tab m (λ i. cond (ltb i n) (f i) z) z (upto n f (replicate m z)) (length-upto n f _ ∙ length-replicate m z)
+      (λ k lk. ⊎-elim
+      (λ a. rw (lt-ltb k n a) (getD-upto-in n f (replicate m z) z k a (rw length-replicate lk)))
+      (λ b. rw (le-ltb k n b) (getD-upto-out n f (replicate m z) z k b ∙ getD-replicate m k z z lk))
+      (lt-or-le k n))
+
+  pub length-padded : (m n : ℕ) (f : ℕ → A) (z : A) → length (padded m n f z) ≡ m
+  unfolding padded
+  length-padded m n f z = length-tab m _
+
+  pub getD-padded : (m n : ℕ) (f : ℕ → A) (z d : A) (k : ℕ) → k < n → n ≤ m → getD (padded m n f z) k d ≡ f k
+  unfolding padded
+  getD-padded m n f z d k l h = getD-tab m _ d k (omega arith) ∙ rw (lt-ltb k n l)
+
+  -- past the count
+  pub getD-rest : (m n : ℕ) (f : ℕ → A) (z d : A) (k : ℕ) → n ≤ k → k < m → getD (padded m n f z) k d ≡ z
+  unfolding padded
+  getD-rest m n f z d k l h = getD-tab m _ d k h ∙ rw (le-ltb k n l)
+
+  pub padded-same : (m n : ℕ) (f g : ℕ → A) (z : A) → ((k : ℕ) → k < n → f k ≡ g k) → padded m n f z ≡ padded m n g z
+  unfolding padded
+  padded-same m n f g z h =
+      tab-same m (λ i. cond (ltb i n) (f i) z) (λ i. cond (ltb i n) (g i) z)
+      (λ k lk. ⊎-elim (λ a. rw (lt-ltb k n a) (h k a)) (λ b. rw (le-ltb k n b)) (lt-or-le k n))
+
+  -- the first n of an array that is padded from n on, replaced
+  pub over-padded : (m n : ℕ) (f g : ℕ → A) (z d : A) → over n g d (padded m n f z) ≡ padded m n g z
+  unfolding over padded
+  over-padded m n f g z d =
+      rw (length-tab m (λ i. cond (ltb i n) (f i) z))
+      (tab-same m (λ i. cond (ltb i n) (g i) (getD (tab m (λ q. cond (ltb q n) (f q) z)) i d)) (λ i. cond (ltb i n) (g i) z)
+      (λ k lk. ⊎-elim
+      (λ a. rw (lt-ltb k n a))
+      (λ b. rw (le-ltb k n b) (getD-tab m (λ q. cond (ltb q n) (f q) z) d k lk ∙ rw (le-ltb k n b)))
+      (lt-or-le k n)))
+
+  -- an array that is z everywhere
+  pub blank-padded : (m n : ℕ) (z : A) → blank m z ≡ padded m n (λ i. z) z
+  unfolding blank padded
+  blank-padded m n z =
+      is-tab m (λ i. cond (ltb i n) z z) z (replicate m z) (length-replicate m z)
+      (λ k lk. getD-replicate m k z z lk ∙ ⊎-elim (λ a. rw (lt-ltb k n a)) (λ b. rw (le-ltb k n b)) (lt-or-le k n))
+
+  -- what is read within a list does not depend on what is read past its end
+  pub getD-within : (x : List A) (k : ℕ) (d e : A) → k < length x → getD x k d ≡ getD x k e
+  getD-within [] k d e l = absurd (not-suc-le-zero l)
+  getD-within (y ∷ ys) zero d e l = refl
+  getD-within (y ∷ ys) (suc k) d e l = getD-within ys k d e (le-of-suc-le-suc l)

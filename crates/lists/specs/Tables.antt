@@ -19,3 +19,7 @@ module _ {ℓ} {A : Type ℓ} where
   -- d with its first n elements replaced by f 0, .., f (n - 1). What is past the end of d is left off. z is the element that is read past an end.
   unfoldable pub over : ℕ → (ℕ → A) → A → List A → List A
   over n f z d = tab (length d) (λ i. cond (ltb i n) (f i) (getD d i z))
+
+  -- an array of m: f 0, .., f (n - 1), and z from there on
+  unfoldable pub padded : ℕ → ℕ → (ℕ → A) → A → List A
+  padded m n f z = tab m (λ i. cond (ltb i n) (f i) z)

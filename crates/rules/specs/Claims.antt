@@ -3,7 +3,7 @@ use mathlib.Core.Path.{_≡_}
 use mathlib.Core.Logic.{_↔_}
 use mathlib.Core.Bool.{Bool, true, false, not}
 use mathlib.Core.List.{List, _∷_, _++_}
-use Prim.Native.Nat.{ℕ, _<_}
+use Prim.Native.Nat.{ℕ, _≤_, _<_}
 use lib.Dec.{ltb}
 use lib.ListN.{length}
 use lib.Ieee.{le}
@@ -47,6 +47,20 @@ pub record AcceptedClaims : Type 0 where
   pub switching : (g : DcSwitchingSimulator) → switchingRefusal g ≡ 0 → Steps (stepsOf g)
   pub fault : (g : DcSwitchingSimulator) (f : DcFaultEvent) → faultRefusal g f ≡ 0 → Steps (stepsOf g)
   pub sweep : (g : DcSwitchingSimulator) (o : SweepOrder) → sweepRefusal g o ≡ 0 → Steps (stepsOf g)
+
+-- what is accepted has from 1 to 32 stations, no more than 64 cables, and no more than 32 breakers
+pub record Sizes (g : DcSwitchingSimulator) : Type 0 where
+  pub some-station : 0 < g .«n_stations»
+  pub stations : g .«n_stations» ≤ 32
+  pub cables : g .«n_cables» ≤ 64
+  pub breakers : g .«n_breakers» ≤ 32
+
+pub record SizeClaims : Type 0 where
+  pub flow : (g : DcSwitchingSimulator) → flowRefusal g ≡ 0 → Sizes g
+  pub detection : (g : DcSwitchingSimulator) → detectionRefusal g ≡ 0 → Sizes g
+  pub switching : (g : DcSwitchingSimulator) → switchingRefusal g ≡ 0 → Sizes g
+  pub fault : (g : DcSwitchingSimulator) (f : DcFaultEvent) → faultRefusal g f ≡ 0 → Sizes g
+  pub sweep : (g : DcSwitchingSimulator) (o : SweepOrder) → sweepRefusal g o ≡ 0 → Sizes g
 
 -- "Fastest of all", where the breakers are accepted: one of them has that time, and none is faster
 pub record FastestClaims : Type 0 where

@@ -1,0 +1,4 @@
+pub mod Constants
+pub mod Answer
+pub mod Lcc
+pub mod Vsc

@@ -1,0 +1,94 @@
+// The line-commutated converter: V = Vd0 cos(alpha) - (3/PI) Xc I.
+ghost use mathlib.Core.Path.{_≡_};
+ghost use Rattle.rules.specs.Studies.{numberOf, pointRefusal};
+ghost use Rattle.converter.specs.Lcc.{cosAlpha, baseImpedance, lccVoltage, lccPowerFactor, lccLosses, lccPoint, lccAnswer};
+use crate::answer::ConverterOperatingPoint;
+use crate::answer::PointAnswer;
+use crate::answer::no_point;
+use float64::PI;
+use float64::SQRT_2;
+use float64::abs;
+use float64::clamp;
+use float64::cos;
+use float64::max;
+use float64::min;
+use float64::to_radians;
+use grid::ConverterStation;
+use rules::check_operating_point;
+use rules::number;
+
+// What a rated power is raised to where it divides.
+const LEAST_POWER_MW: f64 = 0.000001;
+
+// DcSwitchingSimulator::lcc_operating_point
+pub fn lcc_operating_point(station: ConverterStation, i_dc_ka: f64) -> PointAnswer
+    ensures { λ r. ⌜ (numberOf (r .verdict) ≡ pointRefusal station) × (r .point ≡ lccAnswer station «i_dc_ka») ⌝ }
+{
+    let verdict = check_operating_point(station);
+    if number(verdict) == 0 {
+        return PointAnswer {
+            verdict,
+            point: lcc_point(station, i_dc_ka),
+        };
+    }
+    PointAnswer {
+        verdict,
+        point: no_point(),
+    }
+}
+
+// The point of any station, accepted or not.
+pub fn lcc_point(station: ConverterStation, i_dc_ka: f64) -> ConverterOperatingPoint
+    ensures { λ r. ⌜ r ≡ lccPoint station «i_dc_ka» ⌝ }
+{
+    let cos_alpha = cos(to_radians(station.control_angle_deg));
+    let z_base = base_impedance(station);
+    let v_dc = voltage(station, cos_alpha, z_base, i_dc_ka);
+    ConverterOperatingPoint {
+        station_id: station.id,
+        p_dc_mw: v_dc * i_dc_ka,
+        v_dc_kv: v_dc,
+        i_dc_ka,
+        firing_angle_deg: station.control_angle_deg,
+        power_factor: power_factor(station, cos_alpha, i_dc_ka),
+        losses_mw: losses(station, z_base, i_dc_ka),
+    }
+}
+
+// Z = V^2/P of the ratings.
+fn base_impedance(station: ConverterStation) -> f64
+    ensures { λ r. ⌜ r ≡ baseImpedance station ⌝ }
+{
+    let v = station.v_dc_rated_kv;
+    v * v / max(station.p_rated_mw, LEAST_POWER_MW)
+}
+
+fn voltage(station: ConverterStation, cos_alpha: f64, z_base: f64, i_dc_ka: f64) -> f64
+    requires { ⌜ («cos_alpha» ≡ cosAlpha station) × («z_base» ≡ baseImpedance station) ⌝ }
+    ensures { λ r. ⌜ r ≡ lccVoltage station «i_dc_ka» ⌝ }
+{
+    let v_ac_kv = station.v_dc_rated_kv * PI / (3.0 * SQRT_2);
+    let v_d0 = (3.0 * SQRT_2 / PI) * v_ac_kv;
+    let x_c = station.x_commutation_pu * z_base;
+    v_d0 * cos_alpha - (3.0 / PI) * x_c * i_dc_ka
+}
+
+// The overlap angle is an approximation of 000's, and at most a quarter turn of the half circle.
+fn power_factor(station: ConverterStation, cos_alpha: f64, i_dc_ka: f64) -> f64
+    requires { ⌜ «cos_alpha» ≡ cosAlpha station ⌝ }
+    ensures { λ r. ⌜ r ≡ lccPowerFactor station «i_dc_ka» ⌝ }
+{
+    let p = max(station.p_rated_mw, LEAST_POWER_MW);
+    let drop = 2.0 * station.x_commutation_pu * i_dc_ka / p * station.v_dc_rated_kv;
+    let mu_arg = clamp(cos_alpha - drop, -1.0, 1.0);
+    let mu_rad = min(abs(cos_alpha - mu_arg), PI / 4.0);
+    clamp(cos_alpha * (1.0 - mu_rad / 2.0), 0.0, 1.0)
+}
+
+fn losses(station: ConverterStation, z_base: f64, i_dc_ka: f64) -> f64
+    requires { ⌜ «z_base» ≡ baseImpedance station ⌝ }
+    ensures { λ r. ⌜ r ≡ lccLosses station «i_dc_ka» ⌝ }
+{
+    let r_conv = 0.001 * z_base;
+    abs(0.007 * station.p_rated_mw + i_dc_ka * i_dc_ka * r_conv)
+}

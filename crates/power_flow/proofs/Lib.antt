@@ -1,0 +1,5 @@
+pub mod Turns
+pub mod Entries
+pub mod Columns
+pub mod Passes
+pub mod Points

@@ -1,0 +1,41 @@
+-- One turn of each loop over the stations. Assumes nothing.
+use Prim.Native.Nat.{ℕ, _+_}
+use mathlib.Core.Path.{_≡_, refl}
+use mathlib.Core.Bool.{cond}
+use mathlib.Core.List.{List}
+use native.Mathlib.Numerals.{add-one}
+use native.Mathlib.Omega.{arith}
+use borrow.Author.Tests.{eq-eqb, ne-eqb}
+use lib.Dec.{eqb}
+use lib.ListN.{set}
+use lib.Ieee.{Float}
+use Rattle.float64.specs.Constants.{nought}
+use Rattle.float64.specs.Arithmetic.{_⊕_, addedUp}
+use Rattle.float64.specs.Choice.{maxOf, absOf}
+use Rattle.power_flow.specs.Balance.{of, largest}
+use Rattle.power_flow.specs.Voltages.{sumWithout, clamped, moved, divisor, movedTo}
+
+-- a station after the first is not the first
+pub later : (f : ℕ → Float) (i : ℕ) → f (i + 1) ≡ cond (eqb (i + 1) 0) nought (f (i + 1))
+later f i = rw (ne-eqb (i + 1) 0 (λ e. omega arith))
+
+pub largest-more : (d : List Float) (i : ℕ) {most x : Float} → most ≡ largest d i → x ≡ absOf (of d (i + 1)) → maxOf most x ≡ largest d (i + 1)
+largest-more d i e h = rw (e, h, add-one)
+
+pub added-more : (s : Float) (f : ℕ → Float) (i : ℕ) {sum x : Float} → sum ≡ addedUp s f i → x ≡ f i → sum ⊕ x ≡ addedUp s f (i + 1)
+added-more s f i e h = rw (add-one, e, h)
+
+-- a product that belongs to a sum without one of them
+pub without-more : (i : ℕ) (f : ℕ → Float) (j : ℕ) {sum x : Float} → (j ≡ i → ⊥) → sum ≡ sumWithout i f j → x ≡ f j → sum ⊕ x ≡ sumWithout i f (j + 1)
+without-more i f j d e h = rw (add-one, ne-eqb j i d, e, h)
+
+-- and the one that does not
+pub without-self : (i : ℕ) (f : ℕ → Float) → sumWithout i f i ≡ sumWithout i f (i + 1)
+without-self i f = rw (add-one, eq-eqb i i refl)
+
+pub moved-more : (m : List Float) (n : ℕ) (rated d v : List Float) (i : ℕ) {w : List Float} {x : Float}
+    → w ≡ movedTo m n rated d v i
+    → x ≡ clamped (of rated (i + 1)) (moved (of w (i + 1)) (of d (i + 1)) (divisor m n w (i + 1)))
+    → set w (i + 1) x ≡ movedTo m n rated d v (i + 1)
+unfolding movedTo
+moved-more m n rated d v i e h = rw (h, e, add-one)

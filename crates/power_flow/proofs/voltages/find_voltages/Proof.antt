@@ -1,0 +1,90 @@
+-- `find_voltages` meets its contract. Assumes nothing.
+use Rattle.power_flow.proofs.Passes.{passes-out, turn-hit, turn-on}
+use Rattle.power_flow.specs.Voltages.{passes, voltages}
+use native.Mathlib.Omega.{arith}
+use mathlib.Core.Path.{_≡_, refl, sym, _∙_}
+use Prim.Native.Nat.{_-_, _≤_}
+use borrow.Author.Needs.{needs}
+use Rattle.power_flow.proofs.voltages.find_voltages.Statement.{statement}
+use Rattle.power_flow.proofs.voltages.find_voltages.Tie as tie
+
+abbrev Inv-loop : tie.InvT-loop
+Inv-loop n m rated wanted v₀ made₀ v made = (made ≤ 50) × (passes m n rated wanted (50 - made) made v ≡ passes m n rated wanted 50 0 v₀)
+
+abbrev μ-loop : tie.MeasureT-loop
+μ-loop n m rated wanted v₀ made₀ v made = 50 - made
+
+rated-voltages-requires : tie.Need-rated-voltages-requires Inv-loop μ-loop
+rated-voltages-requires c κs = search needs
+
+wanted-powers-requires : tie.Need-wanted-powers-requires Inv-loop μ-loop
+wanted-powers-requires c κs = search needs
+
+loop-holds : tie.Need-loop-holds Inv-loop μ-loop
+loop-holds c = (omega arith, refl)
+
+station-currents-requires : tie.Need-station-currents-requires Inv-loop μ-loop
+station-currents-requires c κs = search needs
+
+power-mismatches-requires : tie.Need-power-mismatches-requires Inv-loop μ-loop
+power-mismatches-requires c κs = search needs
+
+add-passes : tie.Need-add-passes Inv-loop μ-loop
+add-passes c = search needs
+
+largest-mismatch-requires : tie.Need-largest-mismatch-requires Inv-loop μ-loop
+largest-mismatch-requires c κs = search needs
+
+move-voltages-requires : tie.Need-move-voltages-requires Inv-loop μ-loop
+move-voltages-requires c κs = search needs
+
+loop-less : tie.Need-loop-less Inv-loop μ-loop
+loop-less c = search needs
+
+loop-again : tie.Need-loop-again Inv-loop μ-loop
+loop-again c =
+    let g = c .before .before .before .before .before in
+    let k = g .before .before in
+    let t = k .before .before .before .before in
+    let l = t .before .before .before in
+    let s = l .before .before .before in
+    let m = s .args .m .now in
+    let n = s .args .n in
+    (omega arith, turn-on m n _ _ (l .loop .v) (s .pre .1) (t .station-currents .ensures) (k .power-mismatches .ensures) (g .largest-mismatch .ensures) (l .loop .passes) (omega (arith, l .loop .inv .0, t .before .before .if1 .left)) (c .before .before .before .before .if2 .left) (c .move-voltages .ensures) ∙ l .loop .inv .1)
+
+returns : tie.Need-returns Inv-loop μ-loop
+unfolding voltages
+returns c =
+    let l = c .before in
+    let s = l .before .before .before in
+    sym (passes-out (s .args .m .now) (s .args .n) _ _ (l .loop .v) (l .loop .passes) (c .if1 .taken)) ∙ l .loop .inv .1 ∙ rw (l .before .wanted-powers .ensures, l .before .before .rated-voltages .ensures)
+
+returns-2 : tie.Need-returns-2 Inv-loop μ-loop
+unfolding voltages
+returns-2 c =
+    let g = c .before in
+    let k = g .before .before in
+    let t = k .before .before .before .before in
+    let l = t .before .before .before in
+    let s = l .before .before .before in
+    turn-hit (s .args .m .now) (s .args .n) _ _ (l .loop .v) (s .pre .1) (t .station-currents .ensures) (k .power-mismatches .ensures) (g .largest-mismatch .ensures) (l .loop .passes) (omega (arith, l .loop .inv .0, t .before .before .if1 .left)) (c .if2 .taken)
+    ∙ l .loop .inv .1 ∙ rw (l .before .wanted-powers .ensures, l .before .before .rated-voltages .ensures)
+
+pub find-voltages-spec : {M : Type 1} → statement M
+find-voltages-spec =
+    tie.close
+    (tie.spec
+    Inv-loop
+    μ-loop
+    rated-voltages-requires
+    wanted-powers-requires
+    loop-holds
+    station-currents-requires
+    power-mismatches-requires
+    add-passes
+    largest-mismatch-requires
+    move-voltages-requires
+    loop-less
+    loop-again
+    returns
+    returns-2)

@@ -1,0 +1,42 @@
+-- The constants of 000's flow. Each is written by its bits, as a literal of the code is, and the law at the end says of which decimal it is the nearest double.
+use mathlib.Core.Path.{_≡_, refl}
+use Prim.Native.Nat.{ℕ, _^_}
+use lib.Ieee.{Float, binary64, ofBits, round}
+use Rattle.float64.specs.Constants.{decimal}
+
+-- r at least 1e-9
+abbrev pub leastResistance : Float
+leastResistance = ofBits binary64 0x3e11_2e0b_e826_d695
+
+-- the part of its rated power that a station takes
+abbrev pub loading : Float
+loading = ofBits binary64 0x3fe9_9999_9999_999a
+
+-- the mismatch below which the passes stop
+abbrev pub tolerance : Float
+tolerance = ofBits binary64 0x3eb0_c6f7_a0b5_ed8d
+
+-- the divisor up to which nothing moves
+abbrev pub idleDivisor : Float
+idleDivisor = ofBits binary64 0x3d71_9799_812d_ea11
+
+-- clamped to 0.5 to 1.5 of rated
+abbrev pub lowPart : Float
+lowPart = ofBits binary64 0x3fe0_0000_0000_0000
+
+abbrev pub highPart : Float
+highPart = ofBits binary64 0x3ff8_0000_0000_0000
+
+-- at most 50 passes
+abbrev pub mostPasses : ℕ
+mostPasses = 50
+
+pub constants-are
+    : (leastResistance ≡ decimal 1 (10 ^ 9))
+    × (loading ≡ decimal 8 10)
+    × (tolerance ≡ decimal 1 (10 ^ 6))
+    × (idleDivisor ≡ decimal 1 (10 ^ 12))
+    × (lowPart ≡ decimal 5 10)
+    × (highPart ≡ decimal 15 10)
+unfolding ofBits round
+constants-are = (refl, refl, refl, refl, refl, refl)

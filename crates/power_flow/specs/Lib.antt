@@ -1,0 +1,7 @@
+pub mod Constants
+pub mod Conductances
+pub mod Symmetric
+pub mod Balance
+pub mod Voltages
+pub mod Solution
+pub mod Flow

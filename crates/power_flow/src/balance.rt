@@ -1,0 +1,70 @@
+// Currents, powers and mismatches at given voltages.
+ghost use mathlib.Core.Path.{_≡_};
+ghost use Prim.Native.Nat.{_≤_, _<_, _-_};
+ghost use lib.Ieee.{nan};
+ghost use Rattle.lists.specs.Tables.{over};
+ghost use Rattle.float64.specs.Arithmetic.{_⊕_, _⊖_, _⊗_};
+ghost use Rattle.power_flow.specs.Conductances.{cell};
+ghost use Rattle.power_flow.specs.Balance.{of, currents, butFirst, largest};
+ghost use Rattle.power_flow.specs.Symmetric.{Symmetric};
+use float64::abs;
+use float64::max;
+
+// The current of every station. Column after column: for each station the products are added in the same order as along its row, and
+// a column is added to all stations at once.
+pub fn station_currents(m: &[f64; 1024], v: &[f64; 32], n: usize) -> [f64; 32]
+    requires { ⌜ (n ≤ 32) × Symmetric n (m .now) ⌝ }
+    ensures { λ r. ⌜ r ≡ currents (now (m .entry)) n (now (v .entry)) ⌝ }
+{
+    let mut sums = [0.0; 32];
+    let mut j = 0;
+    while j < n {
+        add_column(&mut sums, m, j, v[j], n);
+        j += 1;
+    }
+    sums
+}
+
+fn add_column(sums: &mut [f64; 32], m: &[f64; 1024], j: usize, x: f64, n: usize)
+    requires { ⌜ (j < 32) × (n ≤ 32) ⌝ }
+    ensures { λ _. ⌜ now (sums .exit) ≡ over n (λ i. of (now (sums .entry)) i ⊕ cell (now (m .entry)) j i ⊗ x) nan (now (sums .entry)) ⌝ }
+{
+    let mut i = 0;
+    while i < n {
+        sums[i] = sums[i] + m[j * 32 + i] * x;
+        i += 1;
+    }
+}
+
+// What the power of each station but the first lacks.
+pub fn power_mismatches(
+    wanted: &[f64; 32],
+    v: &[f64; 32],
+    currents: &[f64; 32],
+    n: usize,
+) -> [f64; 32]
+    requires { ⌜ (0 < n) × (n ≤ 32) ⌝ }
+    ensures { λ r. ⌜ r ≡ butFirst n (λ i. of (now (wanted .entry)) i ⊖ of (now (v .entry)) i ⊗ of (now (currents .entry)) i) ⌝ }
+{
+    let mut d = [0.0; 32];
+    let mut i = 0;
+    while i + 1 < n {
+        i += 1;
+        d[i] = wanted[i] - v[i] * currents[i];
+    }
+    d
+}
+
+// A NaN among them is passed over.
+pub fn largest_mismatch(d: &[f64; 32], n: usize) -> f64
+    requires { ⌜ (0 < n) × (n ≤ 32) ⌝ }
+    ensures { λ r. ⌜ r ≡ largest (now (d .entry)) (n - 1) ⌝ }
+{
+    let mut most = 0.0;
+    let mut i = 0;
+    while i + 1 < n {
+        i += 1;
+        most = max(most, abs(d[i]));
+    }
+    most
+}

@@ -1,0 +1,54 @@
+// The conductance matrix, row by row, 32 entries to a row whatever the number of stations.
+ghost use mathlib.Core.Path.{_≡_};
+ghost use Prim.Native.Nat.{_≤_, _<_};
+ghost use lib.ListN.{take};
+ghost use Rattle.power_flow.specs.Conductances.{resistance, joining, joined, eachEntry, matrix};
+use float64::max;
+use grid::DcCable;
+
+// Cable after cable, so that each entry is added up in the cables' order.
+pub fn conductances(cables: [DcCable; 64], n_cables: usize, n: usize) -> [f64; 1024]
+    requires { ⌜ («n_cables» ≤ 64) × (n ≤ 32) ⌝ }
+    ensures { λ r. ⌜ r ≡ matrix n (take «n_cables» cables) ⌝ }
+{
+    let mut m = [0.0; 1024];
+    let mut i = 0;
+    while i < n_cables {
+        let c = cables[i];
+        connect(&mut m, c, n);
+        i += 1;
+    }
+    m
+}
+
+// A cable with an end at or past the count is skipped.
+fn connect(m: &mut [f64; 1024], c: DcCable, n: usize)
+    requires { ⌜ n ≤ 32 ⌝ }
+    ensures { λ _. ⌜ now (m .exit) ≡ eachEntry (λ i j x. joined n i j x c) (now (m .entry)) ⌝ }
+{
+    let from = c.from_station as usize;
+    let to = c.to_station as usize;
+    if from < n {
+        if to < n {
+            let g = 1.0 / cable_resistance(c);
+            store(m, from, to, g);
+        }
+    }
+}
+
+fn store(m: &mut [f64; 1024], from: usize, to: usize, g: f64)
+    requires { ⌜ (from < 32) × (to < 32) ⌝ }
+    ensures { λ _. ⌜ now (m .exit) ≡ eachEntry (joining from to g) (now (m .entry)) ⌝ }
+{
+    m[from * 32 + from] = m[from * 32 + from] + g;
+    m[to * 32 + to] = m[to * 32 + to] + g;
+    m[from * 32 + to] = m[from * 32 + to] - g;
+    m[to * 32 + from] = m[to * 32 + from] - g;
+}
+
+// In kΩ. A cable without resistance has a very small one.
+pub fn cable_resistance(c: DcCable) -> f64
+    ensures { λ r. ⌜ r ≡ resistance c ⌝ }
+{
+    max(c.r_per_km * c.length_km, 0.000000001)
+}

@@ -1,0 +1,158 @@
+// Operating points and losses at given voltages.
+ghost use mathlib.Core.Path.{_≡_};
+ghost use Prim.Native.Nat.{_≤_, _<_};
+ghost use Rattle.lists.specs.Tables.{padded};
+ghost use Rattle.float64.specs.Constants.{nought};
+ghost use Rattle.float64.specs.Arithmetic.{_⊗_, addedUp, sumOf};
+ghost use Rattle.converter.specs.Answer.{blankPoint};
+ghost use Rattle.grid.specs.Simulator.{blankStation};
+ghost use lib.ListN.{getD};
+ghost use Rattle.power_flow.specs.Balance.{of};
+ghost use Rattle.power_flow.specs.Solution.{isLcc, operatingPoint, converterPoint, cut, cableLoss, cableLosses, totalLosses};
+use crate::conductances::cable_resistance;
+use converter::ConverterOperatingPoint;
+use converter::lcc_point;
+use converter::no_point;
+use converter::vsc_point;
+use float64::abs;
+use grid::ConverterStation;
+use grid::ConverterTopology;
+use grid::DcCable;
+
+// The point of each station, from its voltage and current.
+pub fn operating_points(
+    stations: [ConverterStation; 32],
+    v: &[f64; 32],
+    currents: &[f64; 32],
+    n: usize,
+) -> [ConverterOperatingPoint; 32]
+    requires { ⌜ n ≤ 32 ⌝ }
+    ensures { λ r. ⌜ r ≡ padded 32 n (λ k. operatingPoint (getD stations k blankStation) (of (now (v .entry)) k) (of (now (currents .entry)) k)) blankPoint ⌝ }
+{
+    let mut points = [no_point(); 32];
+    let mut i = 0;
+    while i < n {
+        let s = stations[i];
+        points[i] = operating_point(s, v[i], currents[i]);
+        i += 1;
+    }
+    points
+}
+
+fn operating_point(station: ConverterStation, v: f64, current: f64) -> ConverterOperatingPoint
+    ensures { λ r. ⌜ r ≡ operatingPoint station v current ⌝ }
+{
+    let p = v * current;
+    let point = converter_point(station, v, current, p);
+    ConverterOperatingPoint {
+        station_id: station.id,
+        p_dc_mw: p,
+        v_dc_kv: v,
+        i_dc_ka: current,
+        firing_angle_deg: point.firing_angle_deg,
+        power_factor: point.power_factor,
+        losses_mw: point.losses_mw,
+    }
+}
+
+fn converter_point(
+    station: ConverterStation,
+    v: f64,
+    current: f64,
+    p: f64,
+) -> ConverterOperatingPoint
+    requires { ⌜ p ≡ v ⊗ current ⌝ }
+    ensures { λ r. ⌜ r ≡ converterPoint station v current ⌝ }
+{
+    let topology = station.topology;
+    if is_lcc(topology) {
+        return lcc_point(station, abs(current));
+    }
+    vsc_point(station, abs(p), v)
+}
+
+fn is_lcc(topology: ConverterTopology) -> bool
+    ensures { λ r. ⌜ r ≡ isLcc topology ⌝ }
+{
+    match topology {
+        ConverterTopology::Lcc => true,
+        ConverterTopology::TwoLevelVsc => false,
+        ConverterTopology::Mmc { n_submodules } => false,
+        ConverterTopology::Hybrid => false,
+    }
+}
+
+pub fn cable_losses(cables: [DcCable; 64], n_cables: usize, v: &[f64; 32], n: usize) -> [f64; 64]
+    requires { ⌜ («n_cables» ≤ 64) × (0 < n) × (n ≤ 32) ⌝ }
+    ensures { λ r. ⌜ r ≡ cableLosses cables «n_cables» n (now (v .entry)) ⌝ }
+{
+    let mut losses = [0.0; 64];
+    let mut i = 0;
+    while i < n_cables {
+        let c = cables[i];
+        losses[i] = cable_loss(c, v, n);
+        i += 1;
+    }
+    losses
+}
+
+// An end at or past the count is cut to the last station.
+fn cable_loss(c: DcCable, v: &[f64; 32], n: usize) -> f64
+    requires { ⌜ (0 < n) × (n ≤ 32) ⌝ }
+    ensures { λ r. ⌜ r ≡ cableLoss n (now (v .entry)) c ⌝ }
+{
+    let from = cut_end(c.from_station, n);
+    let to = cut_end(c.to_station, n);
+    let r = cable_resistance(c);
+    let i = (v[from] - v[to]) / r;
+    abs(i * i * r)
+}
+
+fn cut_end(station: u64, n: usize) -> usize
+    requires { ⌜ 0 < n ⌝ }
+    ensures { λ r. ⌜ r ≡ cut n station ⌝ }
+{
+    let last = n - 1;
+    let k = station as usize;
+    if k < last { k } else { last }
+}
+
+// Cables first, then converters.
+pub fn total_losses(
+    losses: &[f64; 64],
+    n_cables: usize,
+    points: [ConverterOperatingPoint; 32],
+    n: usize,
+) -> f64
+    requires { ⌜ («n_cables» ≤ 64) × (n ≤ 32) ⌝ }
+    ensures { λ r. ⌜ r ≡ totalLosses (now (losses .entry)) «n_cables» points n ⌝ }
+{
+    add_converter_losses(sum_losses(losses, n_cables), points, n)
+}
+
+fn sum_losses(losses: &[f64; 64], n_cables: usize) -> f64
+    requires { ⌜ «n_cables» ≤ 64 ⌝ }
+    ensures { λ r. ⌜ r ≡ sumOf (of (now (losses .entry))) «n_cables» ⌝ }
+{
+    let mut sum = 0.0;
+    let mut i = 0;
+    while i < n_cables {
+        sum = sum + losses[i];
+        i += 1;
+    }
+    sum
+}
+
+fn add_converter_losses(start: f64, points: [ConverterOperatingPoint; 32], n: usize) -> f64
+    requires { ⌜ n ≤ 32 ⌝ }
+    ensures { λ r. ⌜ r ≡ addedUp start (λ k. getD points k blankPoint .«losses_mw») n ⌝ }
+{
+    let mut sum = start;
+    let mut i = 0;
+    while i < n {
+        let p = points[i];
+        sum = sum + p.losses_mw;
+        i += 1;
+    }
+    sum
+}
