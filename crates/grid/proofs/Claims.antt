@@ -25,7 +25,7 @@ same-row (x ∷ xs) zero y z h = refl
 same-row (x ∷ xs) (suc k) y z h = same-row xs k y z (le-of-suc-le-suc h)
 
 -- no row has its ends the other way round
-ordered : (k : ℕ) → k < 32 → rowOf k .low ≤ rowOf k .high
+ordered : (k : ℕ) → k < 20 → rowOf k .low ≤ rowOf k .high
 ordered k h = rw (same-row table k (ends 1 0) (ends 0 0) h) (leb-true _ _ (passed (λ e. leb (e .low) (e .high)) (ends 0 0) table k refl refl))
 
 wholly : (e : Ends) (n : ℕ) → e .low ≤ n → n ≤ e .high → wholeIn e n ≡ true

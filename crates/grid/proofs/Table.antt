@@ -26,7 +26,7 @@ getD-map f [] k d z h = absurd (not-suc-le-zero h)
 getD-map f (x ∷ xs) zero d z h = refl
 getD-map f (x ∷ xs) (suc k) d z h = getD-map f xs k d z (le-of-suc-le-suc h)
 
-module _ (rows : List Range) (tabled : rows ≡ map asDoubles table) (k : ℕ) (z : Range) (x : Float) (inside : k < 32) where
+module _ (rows : List Range) (tabled : rows ≡ map asDoubles table) (k : ℕ) (z : Range) (x : Float) (inside : k < 20) where
   row-is : getD rows k z ≡ asDoubles (rowOf k)
   row-is = rw tabled (getD-map asDoubles table k (ends 1 0) z inside)
 
@@ -43,7 +43,7 @@ unfolding le ofInt round
 one-above-nought t = t
 
 -- past the table there is nothing to accept
-pub past-rows : (k : ℕ) (x : Float) → 32 ≤ k → false ≡ realIn (rowOf k) x
+pub past-rows : (k : ℕ) (x : Float) → 20 ≤ k → false ≡ realIn (rowOf k) x
 unfolding realIn
 past-rows k x h =
     rw (List·getD-eq-default table (ends 1 0) h)

@@ -34,7 +34,7 @@ abbrev pub transformerReactance : Ends
 transformerReactance = ends 0 1000
 
 abbrev pub shortCircuitRatio : Ends
-shortCircuitRatio = ends 0 1000
+shortCircuitRatio = transformerReactance
 
 abbrev pub controlAngle : Ends
 controlAngle = ends 0 180
@@ -49,27 +49,33 @@ abbrev pub submoduleCapacitance : Ends
 submoduleCapacitance = ends 0 100000
 
 -- cable: per km R, L, C 0 to 1,000; length 0 to 10,000
+abbrev pub perKm : Ends
+perKm = ends 0 1000
+
 abbrev pub resistancePerKm : Ends
-resistancePerKm = ends 0 1000
+resistancePerKm = perKm
 
 abbrev pub inductancePerKm : Ends
-inductancePerKm = ends 0 1000
+inductancePerKm = perKm
 
 abbrev pub capacitancePerKm : Ends
-capacitancePerKm = ends 0 1000
+capacitancePerKm = perKm
 
 abbrev pub cableLength : Ends
 cableLength = ends 0 10000
 
 -- breaker: each time 0 to 100,000; on-state loss 0 to 100; breaking current 0 to 1,000; energy 0 to 100,000
+abbrev pub eachTime : Ends
+eachTime = ends 0 100000
+
 abbrev pub openingTime : Ends
-openingTime = ends 0 100000
+openingTime = eachTime
 
 abbrev pub turnOffTime : Ends
-turnOffTime = ends 0 100000
+turnOffTime = eachTime
 
 abbrev pub commutationTime : Ends
-commutationTime = ends 0 100000
+commutationTime = eachTime
 
 abbrev pub onStateLoss : Ends
 onStateLoss = ends 0 100
@@ -101,38 +107,42 @@ abbrev pub duration : Ends
 duration = ends 0 100000
 
 -- ids, station and cable numbers, submodules: 0 to 65,535
+abbrev pub wholeNumber : Ends
+wholeNumber = ends 0 65535
+
 abbrev pub stationId : Ends
-stationId = ends 0 65535
+stationId = wholeNumber
 
 abbrev pub cableId : Ends
-cableId = ends 0 65535
+cableId = wholeNumber
 
 abbrev pub breakerId : Ends
-breakerId = ends 0 65535
+breakerId = wholeNumber
 
 abbrev pub breakerStation : Ends
-breakerStation = ends 0 65535
+breakerStation = wholeNumber
 
 abbrev pub fromStation : Ends
-fromStation = ends 0 65535
+fromStation = wholeNumber
 
 abbrev pub toStation : Ends
-toStation = ends 0 65535
+toStation = wholeNumber
 
 abbrev pub faultedCable : Ends
-faultedCable = ends 0 65535
+faultedCable = wholeNumber
 
 abbrev pub submodules : Ends
-submodules = ends 0 65535
+submodules = wholeNumber
 
--- the table, in the code's order
+-- the table: a row for each range of the list, in its order
 abbrev pub table : List Ends
 table =
-    stationId ∷ submodules ∷ ratedKv ∷ ratedMw ∷ transformerReactance ∷ shortCircuitRatio ∷ controlAngle ∷ commutationReactance ∷ armInductance ∷ submoduleCapacitance ∷
-    cableId ∷ fromStation ∷ toStation ∷ resistancePerKm ∷ inductancePerKm ∷ capacitancePerKm ∷ cableLength ∷
-    breakerId ∷ breakerStation ∷ openingTime ∷ turnOffTime ∷ commutationTime ∷ onStateLoss ∷ breakingCurrent ∷ absorbedEnergy ∷
-    faultedCable ∷ faultFraction ∷ faultResistance ∷ inceptionTime ∷ tenth ∷
+    ratedKv ∷ ratedMw ∷ transformerReactance ∷ controlAngle ∷ commutationReactance ∷ armInductance ∷ submoduleCapacitance ∷
+    perKm ∷ cableLength ∷
+    eachTime ∷ onStateLoss ∷ breakingCurrent ∷ absorbedEnergy ∷
+    faultResistance ∷ faultFraction ∷ inceptionTime ∷ tenth ∷
     timeStep ∷ duration ∷
+    wholeNumber ∷
     []
 
 -- the row at a position; past the last there is nothing to accept

@@ -43,8 +43,12 @@ operatingPoint s v i =
       «losses_mw» = converterPoint s v i .«losses_mw»;
     }
 
+-- the point of station k
+abbrev pub pointOf : List ConverterStation → ℕ → List Float → List Float → ℕ → ConverterOperatingPoint
+pointOf stations n m v k = operatingPoint (getD stations k blankStation) (of v k) (current m n v k)
+
 abbrev pub operatingPoints : List ConverterStation → ℕ → List Float → List Float → List ConverterOperatingPoint
-operatingPoints stations n m v = padded 32 n (λ k. operatingPoint (getD stations k blankStation) (of v k) (current m n v k)) blankPoint
+operatingPoints stations n m v = padded 32 n (pointOf stations n m v) blankPoint
 
 -- its loss uses the end cut to the last station
 abbrev pub cut : ℕ → ℕ → ℕ
@@ -56,9 +60,13 @@ cableCurrent n v c = (of v (cut n (c .«from_station»)) ⊖ of v (cut n (c .«t
 unfoldable pub cableLoss : ℕ → List Float → DcCable → Float
 cableLoss n v c = absOf (cableCurrent n v c ⊗ cableCurrent n v c ⊗ resistance c)
 
+-- the loss of cable k
+abbrev pub lossOf : List DcCable → ℕ → List Float → ℕ → Float
+lossOf cables n v k = cableLoss n v (getD cables k blankCable)
+
 abbrev pub cableLosses : List DcCable → ℕ → ℕ → List Float → List Float
-cableLosses cables count n v = padded 64 count (λ k. cableLoss n v (getD cables k blankCable)) nought
+cableLosses cables count n v = padded 64 count (lossOf cables n v) nought
 
 -- the cables' losses from zero, then the stations'
-unfoldable pub totalLosses : List Float → ℕ → List ConverterOperatingPoint → ℕ → Float
-totalLosses losses count points n = addedUp (sumOf (of losses) count) (λ k. getD points k blankPoint .«losses_mw») n
+unfoldable pub totalLosses : List ConverterStation → ℕ → List DcCable → ℕ → List Float → List Float → Float
+totalLosses stations n cables count m v = addedUp (sumOf (lossOf cables n v) count) (λ k. pointOf stations n m v k .«losses_mw») n

@@ -2,7 +2,8 @@
 ghost use mathlib.Core.Path.{_≡_};
 ghost use Prim.Native.Nat.{_≤_, _<_, _-_};
 ghost use lib.Ieee.{nan};
-ghost use Rattle.lists.specs.Tables.{over};
+ghost use Rattle.lists.specs.Tables.{blank, over};
+ghost use Rattle.float64.specs.Constants.{nought};
 ghost use Rattle.float64.specs.Arithmetic.{_⊕_, _⊖_, _⊗_};
 ghost use Rattle.power_flow.specs.Conductances.{cell};
 ghost use Rattle.power_flow.specs.Balance.{of, currents, butFirst, largest};
@@ -10,19 +11,17 @@ ghost use Rattle.power_flow.specs.Symmetric.{Symmetric};
 use float64::abs;
 use float64::max;
 
-// The current of every station. Column after column: for each station the products are added in the same order as along its row, and
-// a column is added to all stations at once.
-pub fn station_currents(m: &[f64; 1024], v: &[f64; 32], n: usize) -> [f64; 32]
-    requires { ⌜ (n ≤ 32) × Symmetric n (m .now) ⌝ }
-    ensures { λ r. ⌜ r ≡ currents (now (m .entry)) n (now (v .entry)) ⌝ }
+// The current of every station, into zeros. Column after column: for each station the products are added in the same order as along its
+// row, and a column is added to all stations at once.
+pub fn station_currents(sums: &mut [f64; 32], m: &[f64; 1024], v: &[f64; 32], n: usize)
+    requires { ⌜ (n ≤ 32) × Symmetric n (m .now) × (sums .now ≡ blank 32 nought) ⌝ }
+    ensures { λ _. ⌜ now (sums .exit) ≡ currents (now (m .entry)) n (now (v .entry)) ⌝ }
 {
-    let mut sums = [0.0; 32];
     let mut j = 0;
     while j < n {
-        add_column(&mut sums, m, j, v[j], n);
+        add_column(sums, m, j, v[j], n);
         j += 1;
     }
-    sums
 }
 
 fn add_column(sums: &mut [f64; 32], m: &[f64; 1024], j: usize, x: f64, n: usize)
@@ -36,23 +35,22 @@ fn add_column(sums: &mut [f64; 32], m: &[f64; 1024], j: usize, x: f64, n: usize)
     }
 }
 
-// What the power of each station but the first lacks.
+// What the power of each station but the first lacks, into zeros.
 pub fn power_mismatches(
+    d: &mut [f64; 32],
     wanted: &[f64; 32],
     v: &[f64; 32],
     currents: &[f64; 32],
     n: usize,
-) -> [f64; 32]
-    requires { ⌜ (0 < n) × (n ≤ 32) ⌝ }
-    ensures { λ r. ⌜ r ≡ butFirst n (λ i. of (now (wanted .entry)) i ⊖ of (now (v .entry)) i ⊗ of (now (currents .entry)) i) ⌝ }
+)
+    requires { ⌜ (0 < n) × (n ≤ 32) × (d .now ≡ blank 32 nought) ⌝ }
+    ensures { λ _. ⌜ now (d .exit) ≡ butFirst n (λ i. of (now (wanted .entry)) i ⊖ of (now (v .entry)) i ⊗ of (now (currents .entry)) i) ⌝ }
 {
-    let mut d = [0.0; 32];
     let mut i = 0;
     while i + 1 < n {
         i += 1;
         d[i] = wanted[i] - v[i] * currents[i];
     }
-    d
 }
 
 // A NaN among them is passed over.

@@ -2,23 +2,23 @@
 ghost use mathlib.Core.Path.{_≡_};
 ghost use Prim.Native.Nat.{_≤_, _<_};
 ghost use lib.ListN.{take};
+ghost use Rattle.lists.specs.Tables.{blank};
+ghost use Rattle.float64.specs.Constants.{nought};
 ghost use Rattle.power_flow.specs.Conductances.{resistance, joining, joined, eachEntry, matrix};
 use float64::max;
 use grid::DcCable;
 
 // Cable after cable, so that each entry is added up in the cables' order.
-pub fn conductances(cables: [DcCable; 64], n_cables: usize, n: usize) -> [f64; 1024]
-    requires { ⌜ («n_cables» ≤ 64) × (n ≤ 32) ⌝ }
-    ensures { λ r. ⌜ r ≡ matrix n (take «n_cables» cables) ⌝ }
+pub fn conductances(m: &mut [f64; 1024], cables: [DcCable; 64], n_cables: usize, n: usize)
+    requires { ⌜ («n_cables» ≤ 64) × (n ≤ 32) × (m .now ≡ blank 1024 nought) ⌝ }
+    ensures { λ _. ⌜ now (m .exit) ≡ matrix n (take «n_cables» cables) ⌝ }
 {
-    let mut m = [0.0; 1024];
     let mut i = 0;
     while i < n_cables {
         let c = cables[i];
-        connect(&mut m, c, n);
+        connect(m, c, n);
         i += 1;
     }
-    m
 }
 
 // A cable with an end at or past the count is skipped.

@@ -2,7 +2,8 @@
 ghost use mathlib.Core.Path.{_≡_};
 ghost use Prim.Native.Nat.{_≤_, _<_};
 ghost use Rattle.rules.specs.Studies.{numberOf, flowRefusal};
-ghost use Rattle.power_flow.specs.Flow.{conductancesOf, solutionAt, blankSolution, flowAnswer};
+ghost use Rattle.power_flow.specs.Symmetric.{Symmetric};
+ghost use Rattle.power_flow.specs.Flow.{solutionAt, blankSolution, flowAnswer};
 use crate::balance::station_currents;
 use crate::conductances::conductances;
 use crate::solution;
@@ -10,6 +11,8 @@ use crate::voltages;
 use crate::voltages::Voltages;
 use converter::ConverterOperatingPoint;
 use converter::no_point;
+use grid::ConverterStation;
+use grid::DcCable;
 use grid::DcSwitchingSimulator;
 use rules::Verdict;
 use rules::check_flow;
@@ -36,13 +39,14 @@ pub fn solve_dc_power_flow(g: DcSwitchingSimulator) -> FlowAnswer
 {
     let verdict = check_flow(g);
     if number(verdict) == 0 {
+        let mut m = [0.0; 1024];
         let cables = g.cables;
         let stations = g.stations;
-        let m = conductances(cables, g.n_cables, g.n_stations);
+        conductances(&mut m, cables, g.n_cables, g.n_stations);
         let found = voltages::find_voltages(stations, g.n_stations, &m);
         return FlowAnswer {
             verdict,
-            solution: solution_at(g, &m, found),
+            solution: solution_at(stations, g.n_stations, cables, g.n_cables, &m, found),
         };
     }
     FlowAnswer {
@@ -51,24 +55,30 @@ pub fn solve_dc_power_flow(g: DcSwitchingSimulator) -> FlowAnswer
     }
 }
 
-// Operating points and losses at voltages.
-fn solution_at(g: DcSwitchingSimulator, m: &[f64; 1024], found: Voltages) -> DcGridSolution
-    requires { ⌜ (0 < g .«n_stations») × (g .«n_stations» ≤ 32) × (g .«n_cables» ≤ 64) × (m .now ≡ conductancesOf g) ⌝ }
-    ensures { λ r. ⌜ r ≡ solutionAt g found ⌝ }
+// Operating points and losses at voltages: the cables' losses, then the stations'.
+fn solution_at(
+    stations: [ConverterStation; 32],
+    n: usize,
+    cables: [DcCable; 64],
+    n_cables: usize,
+    m: &[f64; 1024],
+    found: Voltages,
+) -> DcGridSolution
+    requires { ⌜ (0 < n) × (n ≤ 32) × («n_cables» ≤ 64) × Symmetric n (m .now) ⌝ }
+    ensures { λ r. ⌜ r ≡ solutionAt stations n cables «n_cables» (now (m .entry)) found ⌝ }
 {
-    let n = g.n_stations;
-    let n_cables = g.n_cables;
-    let stations = g.stations;
-    let cables = g.cables;
     let v = found.v_dc_kv;
-    let currents = station_currents(m, &v, n);
-    let points = solution::operating_points(stations, &v, &currents, n);
-    let losses = solution::cable_losses(cables, n_cables, &v, n);
-    let total = solution::total_losses(&losses, n_cables, points, n);
+    let mut losses = [0.0; 64];
+    solution::cable_losses(&mut losses, cables, n_cables, &v, n);
+    let total = solution::sum_losses(&losses, n_cables);
+    let mut currents = [0.0; 32];
+    station_currents(&mut currents, m, &v, n);
+    let made = solution::operating_points(stations, &v, &currents, n, total);
+    let points = made.points;
     DcGridSolution {
         operating_points: points,
         cable_losses_mw: losses,
-        total_losses_mw: total,
+        total_losses_mw: made.total_losses_mw,
         converged: found.converged,
         iterations: found.iterations,
     }

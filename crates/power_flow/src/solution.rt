@@ -1,14 +1,14 @@
 // Operating points and losses at given voltages.
 ghost use mathlib.Core.Path.{_≡_};
 ghost use Prim.Native.Nat.{_≤_, _<_};
-ghost use Rattle.lists.specs.Tables.{padded};
+ghost use Rattle.lists.specs.Tables.{blank, padded};
 ghost use Rattle.float64.specs.Constants.{nought};
 ghost use Rattle.float64.specs.Arithmetic.{_⊗_, addedUp, sumOf};
 ghost use Rattle.converter.specs.Answer.{blankPoint};
 ghost use Rattle.grid.specs.Simulator.{blankStation};
 ghost use lib.ListN.{getD};
 ghost use Rattle.power_flow.specs.Balance.{of};
-ghost use Rattle.power_flow.specs.Solution.{isLcc, operatingPoint, converterPoint, cut, cableLoss, cableLosses, totalLosses};
+ghost use Rattle.power_flow.specs.Solution.{isLcc, operatingPoint, converterPoint, cut, cableLoss, cableLosses};
 use crate::conductances::cable_resistance;
 use converter::ConverterOperatingPoint;
 use converter::lcc_point;
@@ -19,24 +19,37 @@ use grid::ConverterStation;
 use grid::ConverterTopology;
 use grid::DcCable;
 
-// The point of each station, from its voltage and current.
+// The points of all stations, and a total with their losses.
+pub struct Points {
+    pub points: [ConverterOperatingPoint; 32],
+    pub total_losses_mw: f64,
+}
+
+// From each station's voltage and current.
 pub fn operating_points(
     stations: [ConverterStation; 32],
     v: &[f64; 32],
     currents: &[f64; 32],
     n: usize,
-) -> [ConverterOperatingPoint; 32]
+    losses: f64,
+) -> Points
     requires { ⌜ n ≤ 32 ⌝ }
-    ensures { λ r. ⌜ r ≡ padded 32 n (λ k. operatingPoint (getD stations k blankStation) (of (now (v .entry)) k) (of (now (currents .entry)) k)) blankPoint ⌝ }
+    ensures { λ r. ⌜ (r .points ≡ padded 32 n (λ k. operatingPoint (getD stations k blankStation) (of (now (v .entry)) k) (of (now (currents .entry)) k)) blankPoint) × (r .«total_losses_mw» ≡ addedUp losses (λ k. operatingPoint (getD stations k blankStation) (of (now (v .entry)) k) (of (now (currents .entry)) k) .«losses_mw») n) ⌝ }
 {
     let mut points = [no_point(); 32];
+    let mut total = losses;
     let mut i = 0;
     while i < n {
         let s = stations[i];
-        points[i] = operating_point(s, v[i], currents[i]);
+        let point = operating_point(s, v[i], currents[i]);
+        points[i] = point;
+        total = total + point.losses_mw;
         i += 1;
     }
-    points
+    Points {
+        points,
+        total_losses_mw: total,
+    }
 }
 
 fn operating_point(station: ConverterStation, v: f64, current: f64) -> ConverterOperatingPoint
@@ -82,18 +95,23 @@ fn is_lcc(topology: ConverterTopology) -> bool
     }
 }
 
-pub fn cable_losses(cables: [DcCable; 64], n_cables: usize, v: &[f64; 32], n: usize) -> [f64; 64]
-    requires { ⌜ («n_cables» ≤ 64) × (0 < n) × (n ≤ 32) ⌝ }
-    ensures { λ r. ⌜ r ≡ cableLosses cables «n_cables» n (now (v .entry)) ⌝ }
+// The losses of all cables, into zeros.
+pub fn cable_losses(
+    losses: &mut [f64; 64],
+    cables: [DcCable; 64],
+    n_cables: usize,
+    v: &[f64; 32],
+    n: usize,
+)
+    requires { ⌜ («n_cables» ≤ 64) × (0 < n) × (n ≤ 32) × (losses .now ≡ blank 64 nought) ⌝ }
+    ensures { λ _. ⌜ now (losses .exit) ≡ cableLosses cables «n_cables» n (now (v .entry)) ⌝ }
 {
-    let mut losses = [0.0; 64];
     let mut i = 0;
     while i < n_cables {
         let c = cables[i];
         losses[i] = cable_loss(c, v, n);
         i += 1;
     }
-    losses
 }
 
 // An end at or past the count is cut to the last station.
@@ -117,20 +135,7 @@ fn cut_end(station: u64, n: usize) -> usize
     if k < last { k } else { last }
 }
 
-// Cables first, then converters.
-pub fn total_losses(
-    losses: &[f64; 64],
-    n_cables: usize,
-    points: [ConverterOperatingPoint; 32],
-    n: usize,
-) -> f64
-    requires { ⌜ («n_cables» ≤ 64) × (n ≤ 32) ⌝ }
-    ensures { λ r. ⌜ r ≡ totalLosses (now (losses .entry)) «n_cables» points n ⌝ }
-{
-    add_converter_losses(sum_losses(losses, n_cables), points, n)
-}
-
-fn sum_losses(losses: &[f64; 64], n_cables: usize) -> f64
+pub fn sum_losses(losses: &[f64; 64], n_cables: usize) -> f64
     requires { ⌜ «n_cables» ≤ 64 ⌝ }
     ensures { λ r. ⌜ r ≡ sumOf (of (now (losses .entry))) «n_cables» ⌝ }
 {
@@ -138,20 +143,6 @@ fn sum_losses(losses: &[f64; 64], n_cables: usize) -> f64
     let mut i = 0;
     while i < n_cables {
         sum = sum + losses[i];
-        i += 1;
-    }
-    sum
-}
-
-fn add_converter_losses(start: f64, points: [ConverterOperatingPoint; 32], n: usize) -> f64
-    requires { ⌜ n ≤ 32 ⌝ }
-    ensures { λ r. ⌜ r ≡ addedUp start (λ k. getD points k blankPoint .«losses_mw») n ⌝ }
-{
-    let mut sum = start;
-    let mut i = 0;
-    while i < n {
-        let p = points[i];
-        sum = sum + p.losses_mw;
         i += 1;
     }
     sum

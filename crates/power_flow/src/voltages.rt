@@ -2,6 +2,12 @@
 ghost use mathlib.Core.Path.{_≡_};
 ghost use mathlib.Core.Logic.{_⊎_};
 ghost use Prim.Native.Nat.{_≤_, _<_, _-_};
+ghost use mathlib.Core.Bool.{cond};
+ghost use lib.Dec.{eqb};
+ghost use lib.Ieee.{neg};
+ghost use Rattle.lists.specs.Tables.{blank};
+ghost use Rattle.power_flow.specs.Constants.{loading};
+ghost use Rattle.float64.specs.Constants.{nought};
 ghost use Rattle.float64.specs.Arithmetic.{_⊗_};
 ghost use Rattle.power_flow.specs.Conductances.{cell};
 ghost use Rattle.power_flow.specs.Symmetric.{Symmetric};
@@ -37,8 +43,9 @@ pub fn find_voltages(stations: [ConverterStation; 32], n: usize, m: &[f64; 1024]
     requires { ⌜ (0 < n) × (n ≤ 32) × Symmetric n (m .now) ⌝ }
     ensures { λ r. ⌜ r ≡ specs.voltages stations n (now (m .entry)) ⌝ }
 {
-    let rated = rated_voltages(stations, n);
-    let wanted = wanted_powers(stations, n);
+    let mut rated = [0.0; 32];
+    let mut wanted = [0.0; 32];
+    read_ratings(&mut rated, &mut wanted, stations, n);
     let mut v = rated;
     let mut passes = 0;
     let outcome = loop {
@@ -48,8 +55,10 @@ pub fn find_voltages(stations: [ConverterStation; 32], n: usize, m: &[f64; 1024]
                 iterations: passes,
             };
         }
-        let currents = balance::station_currents(m, &v, n);
-        let d = balance::power_mismatches(&wanted, &v, &currents, n);
+        let mut currents = [0.0; 32];
+        let mut d = [0.0; 32];
+        balance::station_currents(&mut currents, m, &v, n);
+        balance::power_mismatches(&mut d, &wanted, &v, &currents, n);
         passes += 1;
         if balance::largest_mismatch(&d, n) < TOLERANCE {
             break Outcome {
@@ -66,33 +75,33 @@ pub fn find_voltages(stations: [ConverterStation; 32], n: usize, m: &[f64; 1024]
     }
 }
 
-fn rated_voltages(stations: [ConverterStation; 32], n: usize) -> [f64; 32]
-    requires { ⌜ n ≤ 32 ⌝ }
-    ensures { λ r. ⌜ r ≡ ratedVoltages stations n ⌝ }
+// The voltages that the passes begin at and the powers that they look for, into zeros.
+fn read_ratings(
+    rated: &mut [f64; 32],
+    wanted: &mut [f64; 32],
+    stations: [ConverterStation; 32],
+    n: usize,
+)
+    requires { ⌜ (n ≤ 32) × (rated .now ≡ blank 32 nought) × (wanted .now ≡ blank 32 nought) ⌝ }
+    ensures { λ _. ⌜ (now (rated .exit) ≡ ratedVoltages stations n) × (now (wanted .exit) ≡ wantedPowers stations n) ⌝ }
 {
-    let mut v = [0.0; 32];
     let mut i = 0;
     while i < n {
         let s = stations[i];
-        v[i] = s.v_dc_rated_kv;
+        rated[i] = s.v_dc_rated_kv;
+        wanted[i] = wanted_power(i, s.p_rated_mw);
         i += 1;
     }
-    v
 }
 
-// Negative: the station takes power from the grid.
-fn wanted_powers(stations: [ConverterStation; 32], n: usize) -> [f64; 32]
-    requires { ⌜ (0 < n) × (n ≤ 32) ⌝ }
-    ensures { λ r. ⌜ r ≡ wantedPowers stations n ⌝ }
+// Negative: the station takes power from the grid. The first has what is left.
+fn wanted_power(i: usize, p_rated_mw: f64) -> f64
+    ensures { λ r. ⌜ r ≡ cond (eqb i 0) nought (neg «p_rated_mw» ⊗ loading) ⌝ }
 {
-    let mut p = [0.0; 32];
-    let mut i = 0;
-    while i + 1 < n {
-        i += 1;
-        let s = stations[i];
-        p[i] = -s.p_rated_mw * LOADING;
+    if i == 0 {
+        return 0.0;
     }
-    p
+    -p_rated_mw * LOADING
 }
 
 // A pass's voltages after it, from mismatches that were all taken before it.

@@ -16,14 +16,13 @@ use Rattle.power_flow.proofs.balance.power_mismatches.Statement.{statem
 use Rattle.power_flow.proofs.balance.power_mismatches.Tie as tie
 
 abbrev Inv-loop : tie.InvT-loop
-Inv-loop wanted v currents n d₀ i₀ d i = (i < n) × (d ≡ upto (i + 1) (λ k. cond (eqb k 0) nought (of wanted k ⊖ of v k ⊗ of currents k)) (blank 32 nought))
+Inv-loop d₀ wanted v currents n i₀ d i = (i < n) × (d ≡ upto (i + 1) (λ k. cond (eqb k 0) nought (of wanted k ⊖ of v k ⊗ of currents k)) (blank 32 nought))
 
 abbrev μ-loop : tie.MeasureT-loop
-μ-loop wanted v currents n d₀ i₀ d i = n - i
+μ-loop d₀ wanted v currents n i₀ d i = n - i
 
 loop-holds : tie.Need-loop-holds Inv-loop μ-loop
-unfolding blank
-loop-holds c = (omega (arith, c .pre .0), upto-first 32 _ nought refl)
+loop-holds c = (c .pre .0, rw (c .pre .2) (upto-first 32 _ nought refl))
 
 add-loop : tie.Need-add-loop Inv-loop μ-loop
 add-loop c = search needs
@@ -52,8 +51,8 @@ element-copy-out-d-3 c = search needs
 mul-d-4 : tie.Need-mul-d-4 Inv-loop μ-loop
 mul-d-4 c = search needs
 
-array-write-d : tie.Need-array-write-d Inv-loop μ-loop
-array-write-d c = search needs
+element-write-d : tie.Need-element-write-d Inv-loop μ-loop
+element-write-d c = search needs
 
 loop-less : tie.Need-loop-less Inv-loop μ-loop
 loop-less c = search needs
@@ -68,8 +67,8 @@ returns : tie.Need-returns Inv-loop μ-loop
 unfolding butFirst
 returns c =
     let a = c .before .before .args in
-    at-end (λ k. upto k (λ i. cond (eqb i 0) nought (of (a .wanted .now) i ⊖ of (a .v .now) i ⊗ of (a .currents .now) i)) (blank 32 nought)) (omega (arith, c .before .loop .inv .0)) (omega (arith, c .loop-test .left)) (c .before .loop .inv .1)
-    ∙ upto-padded (a .n) 32 _ nought (omega (arith, c .before .before .pre .1))
+    at-end (λ k. upto k (λ i. cond (eqb i 0) nought (of (a .wanted .now) i ⊖ of (a .v .now) i ⊗ of (a .currents .now) i)) (blank 32 nought)) {i = c .before .loop .i + 1} (omega (arith, c .before .loop .inv .0)) (omega (arith, c .loop-test .left)) (c .before .loop .inv .1)
+    ∙ upto-padded (a .n) 32 _ nought (c .before .before .pre .1)
 
 pub power-mismatches-spec : {M : Type 1} → statement M
 power-mismatches-spec =
@@ -87,7 +86,7 @@ power-mismatches-spec =
     mul-d-3
     element-copy-out-d-3
     mul-d-4
-    array-write-d
+    element-write-d
     loop-less
     loop-again
     returns)

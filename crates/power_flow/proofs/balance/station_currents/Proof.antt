@@ -4,21 +4,19 @@ use Rattle.power_flow.specs.Balance.{current}
 use native.Mathlib.Omega.{arith}
 use mathlib.Core.Path.{_≡_, _∙_}
 use Prim.Native.Nat.{_-_, _≤_}
-use Rattle.lists.specs.Tables.{blank}
 use Rattle.lists.proofs.Counting.{at-end}
 use borrow.Author.Needs.{needs}
 use Rattle.power_flow.proofs.balance.station_currents.Statement.{statement}
 use Rattle.power_flow.proofs.balance.station_currents.Tie as tie
 
 abbrev Inv-loop : tie.InvT-loop
-Inv-loop m v n sums₀ j₀ sums j = (j ≤ n) × (sums ≡ partSums m n v j)
+Inv-loop sums₀ m v n j₀ sums j = (j ≤ n) × (sums ≡ partSums m n v j)
 
 abbrev μ-loop : tie.MeasureT-loop
-μ-loop m v n sums₀ j₀ sums j = n - j
+μ-loop sums₀ m v n j₀ sums j = n - j
 
 loop-holds : tie.Need-loop-holds Inv-loop μ-loop
-unfolding blank
-loop-holds c = (omega arith, column-none (c .args .m .now) (c .args .n) (c .args .v .now))
+loop-holds c = (omega arith, c .pre .2 ∙ column-none (c .args .m .now) (c .args .n) (c .args .v .now))
 
 mul-add-column : tie.Need-mul-add-column Inv-loop μ-loop
 mul-add-column c = search needs

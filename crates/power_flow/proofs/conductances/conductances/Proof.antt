@@ -5,7 +5,6 @@ use lib.ListN.{length, take}
 use native.Mathlib.Omega.{arith}
 use mathlib.Core.Path.{_≡_, _∙_}
 use Prim.Native.Nat.{_-_, _≤_}
-use Rattle.lists.specs.Tables.{blank}
 use Rattle.lists.proofs.Scanning.{unmapped}
 use Rattle.lists.proofs.Counting.{at-end}
 use borrow.Author.Needs.{needs}
@@ -13,17 +12,16 @@ use Rattle.power_flow.proofs.conductances.conductances.Statement.{state
 use Rattle.power_flow.proofs.conductances.conductances.Tie as tie
 
 abbrev Inv-loop : tie.InvT-loop
-Inv-loop n-cables n cables m₀ i₀ m i = (i ≤ n-cables) × (m ≡ matrix n (take i cables))
+Inv-loop m₀ n-cables n cables i₀ m i = (i ≤ n-cables) × (m ≡ matrix n (take i cables))
 
 abbrev μ-loop : tie.MeasureT-loop
-μ-loop n-cables n cables m₀ i₀ m i = n-cables - i
+μ-loop m₀ n-cables n cables i₀ m i = n-cables - i
 
-long : (c : tie.Start Inv-loop μ-loop) → length (c .args .t1) ≡ 64
+long : (c : tie.Start Inv-loop μ-loop) → length (c .args .t2) ≡ 64
 long c = search (needs, unmapped)
 
 loop-holds : tie.Need-loop-holds Inv-loop μ-loop
-unfolding blank
-loop-holds c = (omega arith, matrix-none (c .args .n))
+loop-holds c = (omega arith, c .pre .2 ∙ matrix-none (c .args .n))
 
 mul-c : tie.Need-mul-c Inv-loop μ-loop
 mul-c c = search needs
@@ -44,12 +42,12 @@ loop-again : tie.Need-loop-again Inv-loop μ-loop
 loop-again c =
     let l = c .before .before .before .before in
     let a = l .before .args in
-    (omega arith, c .connect .ensures ∙ rw (l .loop .inv .1) (matrix-more (a .n) _ (a .t1) (l .loop .i) (omega (arith, long (l .before), l .before .pre .0))))
+    (omega arith, c .connect .ensures ∙ rw (l .loop .inv .1) (matrix-more (a .n) _ (a .t2) (l .loop .i) (omega (arith, long (l .before), l .before .pre .0))))
 
 returns : tie.Need-returns Inv-loop μ-loop
 returns c =
     let a = c .before .before .args in
-    at-end (λ k. matrix (a .n) (take k (a .t1))) (c .before .loop .inv .0) (c .loop-test .left) (c .before .loop .inv .1)
+    at-end (λ k. matrix (a .n) (take k (a .t2))) (c .before .loop .inv .0) (c .loop-test .left) (c .before .loop .inv .1)
 
 pub conductances-spec : {M : Type 1} → statement M
 conductances-spec =

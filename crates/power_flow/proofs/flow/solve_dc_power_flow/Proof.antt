@@ -5,7 +5,9 @@ use Rattle.rules.proofs.Sizes.{size-claims}
 use Rattle.rules.specs.Claims.{Sizes}
 use Rattle.rules.specs.Studies.{flowRefusal}
 use Rattle.grid.specs.Simulator.{cablesOf}
-use mathlib.Core.Path.{sym, _∙_}
+use mathlib.Core.Path.{refl, sym, _∙_}
+use Prim.Native.Nat.{_-_}
+use Rattle.lists.specs.Tables.{blank}
 use Rattle.lists.proofs.Counting.{yes, no}
 use borrow.Author.Needs.{needs}
 use Rattle.power_flow.proofs.flow.solve_dc_power_flow.Statement.{statement}
@@ -21,28 +23,33 @@ number-requires : tie.Need-number-requires
 number-requires c κs = search needs
 
 conductances-requires : tie.Need-conductances-requires
-conductances-requires c κs = let z = sized (c .before .before) in (z .cables, z .stations)
+unfolding blank
+conductances-requires c κs = let z = sized (c .before .before .before) in (z .cables, z .stations, refl)
 
 find-voltages-requires : tie.Need-find-voltages-requires
 find-voltages-requires c κs =
-    let i = c .before .before .before .before in
+    let i = c .before .before .before .before .before in
     let z = sized i in
     let g = i .before .before .before .args .g in
     (z .some-station, z .stations, λ a b la lb. rw (c .before .conductances .ensures) (matrix-symmetric (g .«n_stations») (cablesOf g) (z .stations) a b la lb))
 
 solution-at-requires : tie.Need-solution-at-requires
 solution-at-requires c κs =
-    let z = sized (c .before .before .before .before .before .before) in
-    (z .some-station, z .stations, z .cables, c .before .before .before .conductances .ensures)
+    let k = c .before .before .before in
+    let i = k .before .before .before .before in
+    let z = sized i in
+    let g = i .before .before .before .args .g in
+    (z .some-station, z .stations, z .cables, λ a b la lb. rw (k .conductances .ensures) (matrix-symmetric (g .«n_stations») (cablesOf g) (z .stations) a b la lb))
 
 returns : tie.Need-returns
 unfolding flowAnswer
 returns c =
     let m = c .before .before .before .before in
-    let i = m .before .before .before in
-    let k = i .before .before in
-    (k .check-flow .ensures,
-    c .solution-at .ensures ∙ rw (c .before .before .find-voltages .ensures, m .conductances .ensures, yes (flowRefusal (k .before .args .g)) 0 (i .before .number .ensures ∙ k .check-flow .ensures) (i .if1 .taken)))
+    let i = m .before .before .before .before in
+    let k = i .before .before in (
+      k .check-flow .ensures,
+      c .solution-at .ensures ∙ rw (c .before .before .find-voltages .ensures, m .conductances .ensures, yes (flowRefusal (k .before .args .g)) 0 (i .before .number .ensures ∙ k .check-flow .ensures) (i .if1 .taken)),
+    )
 
 no-solution-requires : tie.Need-no-solution-requires
 no-solution-requires c κs = search needs
@@ -50,9 +57,10 @@ no-solution-requires c κs = search needs
 returns-2 : tie.Need-returns-2
 unfolding flowAnswer
 returns-2 c =
-    let k = c .before .before .before in
-    (k .check-flow .ensures,
-    c .no-solution .ensures ∙ rw (no (flowRefusal (k .before .args .g)) 0 (c .before .before .number .ensures ∙ k .check-flow .ensures) (c .before .if1 .left)))
+    let k = c .before .before .before in (
+      k .check-flow .ensures,
+      c .no-solution .ensures ∙ rw (no (flowRefusal (k .before .args .g)) 0 (c .before .before .number .ensures ∙ k .check-flow .ensures) (c .before .if1 .left)),
+    )
 
 pub solve-dc-power-flow-spec : {M : Type 1} → statement M
 solve-dc-power-flow-spec =

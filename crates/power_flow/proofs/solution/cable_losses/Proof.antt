@@ -1,8 +1,8 @@
 -- `cable_losses` meets its contract. Assumes nothing.
-use Rattle.power_flow.specs.Solution.{cableLoss}
+use Rattle.power_flow.specs.Solution.{cableLoss, lossOf}
 use Rattle.grid.specs.Simulator.{blankCable}
 use Rattle.float64.specs.Constants.{nought}
-use lib.ListN.{length, getD}
+use lib.ListN.{length}
 use native.Mathlib.Omega.{arith}
 use mathlib.Core.Path.{_≡_, ap, _∙_}
 use Prim.Native.Nat.{_-_, _≤_}
@@ -15,17 +15,16 @@ use Rattle.power_flow.proofs.solution.cable_losses.Statement.{statement
 use Rattle.power_flow.proofs.solution.cable_losses.Tie as tie
 
 abbrev Inv-loop : tie.InvT-loop
-Inv-loop n-cables v n cables losses₀ i₀ losses i = (i ≤ n-cables) × (losses ≡ upto i (λ k. cableLoss n v (getD cables k blankCable)) (blank 64 nought))
+Inv-loop losses₀ n-cables v n cables i₀ losses i = (i ≤ n-cables) × (losses ≡ upto i (lossOf cables n v) (blank 64 nought))
 
 abbrev μ-loop : tie.MeasureT-loop
-μ-loop n-cables v n cables losses₀ i₀ losses i = n-cables - i
+μ-loop losses₀ n-cables v n cables i₀ losses i = n-cables - i
 
-long : (c : tie.Start Inv-loop μ-loop) → length (c .args .t1) ≡ 64
+long : (c : tie.Start Inv-loop μ-loop) → length (c .args .t2) ≡ 64
 long c = search (needs, unmapped)
 
 loop-holds : tie.Need-loop-holds Inv-loop μ-loop
-unfolding blank
-loop-holds c = (omega arith, upto-none _ _)
+loop-holds c = (omega arith, rw (c .pre .3) (upto-none _ _))
 
 mul-c : tie.Need-mul-c Inv-loop μ-loop
 mul-c c = search needs
@@ -39,8 +38,8 @@ cable-loss-requires c κs = search needs
 mul-losses : tie.Need-mul-losses Inv-loop μ-loop
 mul-losses c = search needs
 
-array-write-losses : tie.Need-array-write-losses Inv-loop μ-loop
-array-write-losses c = search needs
+element-write-losses : tie.Need-element-write-losses Inv-loop μ-loop
+element-write-losses c = search needs
 
 add-i : tie.Need-add-i Inv-loop μ-loop
 add-i c = search needs
@@ -52,12 +51,12 @@ loop-again : tie.Need-loop-again Inv-loop μ-loop
 loop-again c =
     let l = c .before .before .before in
     let a = l .before .args in
-    (omega arith, upto-more _ _ (l .loop .i) (l .loop .inv .1) (c .cable-loss .ensures ∙ ap (cableLoss (a .n) (a .v .now)) (getD-within (a .t1) (l .loop .i) _ blankCable (omega (arith, long (l .before), l .before .pre .0)))))
+    (omega arith, upto-more _ _ (l .loop .i) (l .loop .inv .1) (c .cable-loss .ensures ∙ ap (cableLoss (a .n) (a .v .now)) (getD-within (a .t2) (l .loop .i) _ blankCable (omega (arith, long (l .before), l .before .pre .0)))))
 
 returns : tie.Need-returns Inv-loop μ-loop
 returns c =
     let a = c .before .before .args in
-    at-end (λ k. upto k (λ i. cableLoss (a .n) (a .v .now) (getD (a .t1) i blankCable)) (blank 64 nought)) (c .before .loop .inv .0) (c .loop-test .left) (c .before .loop .inv .1)
+    at-end (λ k. upto k (lossOf (a .t2) (a .n) (a .v .now)) (blank 64 nought)) (c .before .loop .inv .0) (c .loop-test .left) (c .before .loop .inv .1)
     ∙ upto-padded (a .«n-cables») 64 _ nought (c .before .before .pre .0)
 
 pub cable-losses-spec : {M : Type 1} → statement M
@@ -71,7 +70,7 @@ cable-losses-spec =
     array-copy-out-c
     cable-loss-requires
     mul-losses
-    array-write-losses
+    element-write-losses
     add-i
     loop-less
     loop-again

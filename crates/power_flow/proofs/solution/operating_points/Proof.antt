@@ -1,13 +1,16 @@
 -- `operating_points` meets its contract. Assumes nothing.
+use Rattle.converter.specs.declared.answer.ConverterOperatingPoint.{ConverterOperatingPoint}
 use Rattle.grid.specs.declared.parts.ConverterStation.{ConverterStation}
+use Rattle.power_flow.proofs.Turns.{added-more}
 use Rattle.power_flow.specs.Solution.{operatingPoint}
 use Rattle.converter.specs.Answer.{blankPoint}
 use Rattle.grid.specs.Simulator.{blankStation}
 use Rattle.power_flow.specs.Balance.{of}
+use Rattle.float64.specs.Arithmetic.{addedUp}
 use lib.ListN.{length, getD}
 use native.Mathlib.Omega.{arith}
-use mathlib.Core.Path.{_≡_, ap, _∙_}
-use Prim.Native.Nat.{_-_, _≤_}
+use mathlib.Core.Path.{_≡_, refl, ap, _∙_}
+use Prim.Native.Nat.{ℕ, _-_, _≤_}
 use Rattle.lists.specs.Tables.{blank}
 use Rattle.lists.proofs.Scanning.{unmapped}
 use Rattle.lists.proofs.Counting.{at-end}
@@ -17,10 +20,10 @@ use Rattle.power_flow.proofs.solution.operating_points.Statement.{state
 use Rattle.power_flow.proofs.solution.operating_points.Tie as tie
 
 abbrev Inv-loop : tie.InvT-loop
-Inv-loop v currents n stations points₀ i₀ points i = (i ≤ n) × (points ≡ upto i (λ k. operatingPoint (getD stations k blankStation) (of v k) (of currents k)) (blank 32 blankPoint))
+Inv-loop v currents n losses stations points₀ total₀ i₀ points total i = (i ≤ n) × (points ≡ upto i (λ k. operatingPoint (getD stations k blankStation) (of v k) (of currents k)) (blank 32 blankPoint)) × (total ≡ addedUp losses (λ k. operatingPoint (getD stations k blankStation) (of v k) (of currents k) .«losses_mw») i)
 
 abbrev μ-loop : tie.MeasureT-loop
-μ-loop v currents n stations points₀ i₀ points i = n - i
+μ-loop v currents n losses stations points₀ total₀ i₀ points total i = n - i
 
 no-point-requires : tie.Need-no-point-requires Inv-loop μ-loop
 no-point-requires c κs = search needs
@@ -30,7 +33,7 @@ long c = search (needs, unmapped)
 
 loop-holds : tie.Need-loop-holds Inv-loop μ-loop
 unfolding blank
-loop-holds c = (omega arith, rw (c .no-point .ensures) (upto-none _ _))
+loop-holds c = (omega arith, rw (c .no-point .ensures) (upto-none _ _), refl)
 
 mul-s : tie.Need-mul-s Inv-loop μ-loop
 mul-s c = search needs
@@ -67,16 +70,21 @@ loop-less c = search needs
 
 loop-again : tie.Need-loop-again Inv-loop μ-loop
 loop-again c =
-    let l = c .before .before .before .before .before in
+    let p = c .before in
+    let l = p .before .before .before .before .before in
     let a = l .before .before .args in
     let i = l .loop .i in
-    (omega arith, upto-more _ _ i (l .loop .inv .1) (c .operating-point .ensures ∙ ap (λ (s : ConverterStation). operatingPoint s (of (a .v .now) i) (of (a .currents .now) i)) (getD-within (a .t1) i _ blankStation (omega (arith, long (l .before .before))))))
+    let f : ℕ → ConverterOperatingPoint = λ k. operatingPoint (getD (a .t1) k blankStation) (of (a .v .now) k) (of (a .currents .now) k) in
+    let same = p .operating-point .ensures ∙ ap (λ (s : ConverterStation). operatingPoint s (of (a .v .now) i) (of (a .currents .now) i)) (getD-within (a .t1) i _ blankStation (omega (arith, long (l .before .before)))) in
+    (omega arith, upto-more _ _ i (l .loop .inv .1) same, added-more (a .losses) (λ k. f k .«losses_mw») i (l .loop .inv .2) (ap (λ (q : ConverterOperatingPoint). q .«losses_mw») same))
 
 returns : tie.Need-returns Inv-loop μ-loop
 returns c =
     let a = c .before .before .before .args in
-    at-end (λ k. upto k (λ i. operatingPoint (getD (a .t1) i blankStation) (of (a .v .now) i) (of (a .currents .now) i)) (blank 32 blankPoint)) (c .before .loop .inv .0) (c .loop-test .left) (c .before .loop .inv .1)
-    ∙ upto-padded (a .n) 32 _ blankPoint (c .before .before .before .pre)
+    let f : ℕ → ConverterOperatingPoint = λ k. operatingPoint (getD (a .t1) k blankStation) (of (a .v .now) k) (of (a .currents .now) k) in (
+      at-end (λ k. upto k f (blank 32 blankPoint)) (c .before .loop .inv .0) (c .loop-test .left) (c .before .loop .inv .1) ∙ upto-padded (a .n) 32 _ blankPoint (c .before .before .before .pre),
+      at-end (addedUp (a .losses) (λ k. f k .«losses_mw»)) (c .before .loop .inv .0) (c .loop-test .left) (c .before .loop .inv .2),
+    )
 
 pub operating-points-spec : {M : Type 1} → statement M
 operating-points-spec =

@@ -51,11 +51,13 @@ loop-again c =
     let l = c .before .before .before in
     let s = l .before in
     let a = s .args in
-    let j = l .loop .j in
-    (omega arith, omega arith,
-    without-more (a .i) (λ k. cell (a .m .now) (a .i) k ⊗ of (a .v .now) k) j
-    (λ e. ⊎-elim (λ h. omega arith) (λ h. omega arith) (s .pre .3))
-    (l .loop .inv .2) refl)
+    let j = l .loop .j in (
+      omega arith,
+      omega arith,
+      without-more (a .i) (λ k. cell (a .m .now) (a .i) k ⊗ of (a .v .now) k) j
+          (λ e. ⊎-elim (λ h. omega arith) (λ h. omega arith) (s .pre .3))
+          (l .loop .inv .2) refl,
+    )
 
 returns : tie.Need-returns Inv-loop μ-loop
 returns c =

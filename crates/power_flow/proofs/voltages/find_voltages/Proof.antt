@@ -4,6 +4,7 @@ use Rattle.power_flow.specs.Voltages.{passes, voltages}
 use native.Mathlib.Omega.{arith}
 use mathlib.Core.Path.{_≡_, refl, sym, _∙_}
 use Prim.Native.Nat.{_-_, _≤_}
+use Rattle.lists.specs.Tables.{blank}
 use borrow.Author.Needs.{needs}
 use Rattle.power_flow.proofs.voltages.find_voltages.Statement.{statement}
 use Rattle.power_flow.proofs.voltages.find_voltages.Tie as tie
@@ -14,20 +15,24 @@ Inv-loop n m rated wanted v₀ made₀ v made = (made ≤ 50) × (passes m n rat
 abbrev μ-loop : tie.MeasureT-loop
 μ-loop n m rated wanted v₀ made₀ v made = 50 - made
 
-rated-voltages-requires : tie.Need-rated-voltages-requires Inv-loop μ-loop
-rated-voltages-requires c κs = search needs
-
-wanted-powers-requires : tie.Need-wanted-powers-requires Inv-loop μ-loop
-wanted-powers-requires c κs = search needs
+read-ratings-requires : tie.Need-read-ratings-requires Inv-loop μ-loop
+unfolding blank
+read-ratings-requires c κs = (c .before .before .pre .1, refl, refl)
 
 loop-holds : tie.Need-loop-holds Inv-loop μ-loop
 loop-holds c = (omega arith, refl)
 
 station-currents-requires : tie.Need-station-currents-requires Inv-loop μ-loop
-station-currents-requires c κs = search needs
+unfolding blank
+station-currents-requires c κs =
+    let s = c .before .before .before .before .before .before .before in
+    (s .pre .1, s .pre .2, refl)
 
 power-mismatches-requires : tie.Need-power-mismatches-requires Inv-loop μ-loop
-power-mismatches-requires c κs = search needs
+unfolding blank
+power-mismatches-requires c κs =
+    let s = c .before .before .before .before .before .before .before .before .before .before .before .before in
+    (s .pre .0, s .pre .1, refl)
 
 add-passes : tie.Need-add-passes Inv-loop μ-loop
 add-passes c = search needs
@@ -45,30 +50,32 @@ loop-again : tie.Need-loop-again Inv-loop μ-loop
 loop-again c =
     let g = c .before .before .before .before .before in
     let k = g .before .before in
-    let t = k .before .before .before .before in
-    let l = t .before .before .before in
-    let s = l .before .before .before in
+    let t = k .before .before .before .before .before in
+    let l = t .before .before .before .before in
+    let s = l .before .before .before .before in
     let m = s .args .m .now in
     let n = s .args .n in
-    (omega arith, turn-on m n _ _ (l .loop .v) (s .pre .1) (t .station-currents .ensures) (k .power-mismatches .ensures) (g .largest-mismatch .ensures) (l .loop .passes) (omega (arith, l .loop .inv .0, t .before .before .if1 .left)) (c .before .before .before .before .if2 .left) (c .move-voltages .ensures) ∙ l .loop .inv .1)
+    (omega arith, turn-on m n _ _ (l .loop .v) (s .pre .1) (t .station-currents .ensures) (k .power-mismatches .ensures) (g .largest-mismatch .ensures) (l .loop .passes) (omega (arith, l .loop .inv .0, t .before .before .before .if1 .left)) (c .before .before .before .before .if2 .left) (c .move-voltages .ensures) ∙ l .loop .inv .1)
 
 returns : tie.Need-returns Inv-loop μ-loop
 unfolding voltages
 returns c =
     let l = c .before in
-    let s = l .before .before .before in
-    sym (passes-out (s .args .m .now) (s .args .n) _ _ (l .loop .v) (l .loop .passes) (c .if1 .taken)) ∙ l .loop .inv .1 ∙ rw (l .before .wanted-powers .ensures, l .before .before .rated-voltages .ensures)
+    let r = l .before in
+    let s = r .before .before .before in
+    sym (passes-out (s .args .m .now) (s .args .n) _ _ (l .loop .v) (l .loop .passes) (c .if1 .taken)) ∙ l .loop .inv .1 ∙ rw (r .read-ratings .ensures .1, r .read-ratings .ensures .0)
 
 returns-2 : tie.Need-returns-2 Inv-loop μ-loop
 unfolding voltages
 returns-2 c =
     let g = c .before in
     let k = g .before .before in
-    let t = k .before .before .before .before in
-    let l = t .before .before .before in
-    let s = l .before .before .before in
-    turn-hit (s .args .m .now) (s .args .n) _ _ (l .loop .v) (s .pre .1) (t .station-currents .ensures) (k .power-mismatches .ensures) (g .largest-mismatch .ensures) (l .loop .passes) (omega (arith, l .loop .inv .0, t .before .before .if1 .left)) (c .if2 .taken)
-    ∙ l .loop .inv .1 ∙ rw (l .before .wanted-powers .ensures, l .before .before .rated-voltages .ensures)
+    let t = k .before .before .before .before .before in
+    let l = t .before .before .before .before in
+    let r = l .before in
+    let s = r .before .before .before in
+    turn-hit (s .args .m .now) (s .args .n) _ _ (l .loop .v) (s .pre .1) (t .station-currents .ensures) (k .power-mismatches .ensures) (g .largest-mismatch .ensures) (l .loop .passes) (omega (arith, l .loop .inv .0, t .before .before .before .if1 .left)) (c .if2 .taken)
+    ∙ l .loop .inv .1 ∙ rw (r .read-ratings .ensures .1, r .read-ratings .ensures .0)
 
 pub find-voltages-spec : {M : Type 1} → statement M
 find-voltages-spec =
@@ -76,8 +83,7 @@ find-voltages-spec =
     (tie.spec
     Inv-loop
     μ-loop
-    rated-voltages-requires
-    wanted-powers-requires
+    read-ratings-requires
     loop-holds
     station-currents-requires
     power-mismatches-requires
