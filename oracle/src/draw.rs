@@ -1,8 +1,10 @@
 //! Jobs drawn at random, the same ones from the same seed.
 
+mod flows;
 mod grids;
+mod points;
 
-use crate::jobs::FLOATS;
+use crate::jobs::{is_point, FLOATS, FLOW};
 use crate::plan::End;
 use std::f64::consts::PI;
 
@@ -55,6 +57,9 @@ pub fn job(number: u64, random: &mut Random) -> Drawn {
             numbers: floats(random),
             put: Vec::new(),
         },
+        // One in four has values at the ends of what the rules accept.
+        FLOW if random.below(4) > 0 => flows::job(random),
+        _ if is_point(number) && random.below(4) > 0 => points::job(number, random),
         _ => grids::job(number, random),
     }
 }

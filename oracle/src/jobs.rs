@@ -2,7 +2,7 @@
 
 use crate::dc_switching::{
     clearing_time_ms, fastest_clearing_ms, record_interval, recorded_steps, time_step_ms,
-    total_steps,
+    total_steps, ConverterOperatingPoint, DcSwitchingSimulator,
 };
 use crate::grids::{self, Grid, BREAKERS, CABLES, STATIONS};
 use crate::numbers::{bits, double};
@@ -11,6 +11,7 @@ use crate::stand_in::StandIn;
 
 pub const FLOW: u64 = 1;
 pub const LCC_POINT: u64 = 2;
+pub const VSC_POINT: u64 = 3;
 pub const FAULT_RUN: u64 = 4;
 pub const SWITCHING_RUN: u64 = 5;
 pub const DETECTION: u64 = 6;
@@ -20,9 +21,10 @@ pub const FLOATS: u64 = 8;
 pub const TIMES: u64 = 12;
 
 /// The jobs on a grid or a part of one.
-pub const GRID_JOBS: [(u64, &str); 7] = [
+pub const GRID_JOBS: [(u64, &str); 8] = [
     (FLOW, "flow"),
     (LCC_POINT, "LCC point"),
+    (VSC_POINT, "VSC point"),
     (FAULT_RUN, "fault run"),
     (SWITCHING_RUN, "switching run"),
     (DETECTION, "detection"),
@@ -30,11 +32,17 @@ pub const GRID_JOBS: [(u64, &str); 7] = [
     (TIMES, "times"),
 ];
 
+/// Whether a job is an operating point, which has a station and no grid.
+pub fn is_point(job: u64) -> bool {
+    matches!(job, LCC_POINT | VSC_POINT)
+}
+
 /// Answers the next job, or nothing more where the input ends, inside the job too, or no such job is known.
 pub fn answer(input: &mut impl Iterator<Item = u64>, output: &mut Vec<u64>) -> Option<()> {
     match input.next()? {
-        FLOW => output.push(flow(input)?),
-        LCC_POINT => output.push(lcc_point(input)?),
+        FLOW => flow(input, output)?,
+        LCC_POINT => lcc_point(input, output)?,
+        VSC_POINT => vsc_point(input, output)?,
         FAULT_RUN => output.push(fault_run(input)?),
         SWITCHING_RUN => output.push(switching_run(input)?),
         DETECTION => output.push(detection(input)?),
@@ -46,18 +54,80 @@ pub fn answer(input: &mut impl Iterator<Item = u64>, output: &mut Vec<u64>) -> O
     Some(())
 }
 
-// The studies, each up to its refusal: 0, or the number of the rule. Of what a refusal does not depend on, the numbers are
-// read, so that the next job begins where this one ends.
+// The studies that are answered whole: 0 and the result, or the number of the rule alone. What no rule refuses never stops the
+// Rust: its clamps have whole numbers or parts of an accepted voltage as ends.
 
-fn flow(input: &mut impl Iterator<Item = u64>) -> Option<u64> {
-    Some(rules::flow(&grids::grid(input)?))
+fn flow(input: &mut impl Iterator<Item = u64>, output: &mut Vec<u64>) -> Option<()> {
+    let grid = grids::grid(input)?;
+    let refusal = rules::flow(&grid);
+    output.push(refusal);
+    if refusal == 0 {
+        let solution = grid
+            .simulator
+            .solve_dc_power_flow()
+            .expect("rule 1 has seen a station");
+        output.extend([
+            solution.converged as u64,
+            solution.iterations as u64,
+            bits(solution.total_losses_mw),
+        ]);
+        for point in &solution.operating_points {
+            output.extend(point_numbers(point));
+        }
+        output.extend(solution.cable_losses_mw.into_iter().map(bits));
+    }
+    Some(())
 }
 
-fn lcc_point(input: &mut impl Iterator<Item = u64>) -> Option<u64> {
+fn lcc_point(input: &mut impl Iterator<Item = u64>, output: &mut Vec<u64>) -> Option<()> {
     let station = grids::station(input)?;
-    let _current = input.next()?;
-    Some(rules::operating_point(&station))
+    let i_dc_ka = double(input.next()?);
+    let refusal = rules::operating_point(&station);
+    output.push(refusal);
+    if refusal == 0 {
+        output.extend(point_numbers(
+            &no_grid().lcc_operating_point(&station, i_dc_ka),
+        ));
+    }
+    Some(())
 }
+
+fn vsc_point(input: &mut impl Iterator<Item = u64>, output: &mut Vec<u64>) -> Option<()> {
+    let station = grids::station(input)?;
+    let p_mw = double(input.next()?);
+    let v_dc_kv = double(input.next()?);
+    let refusal = rules::operating_point(&station);
+    output.push(refusal);
+    if refusal == 0 {
+        output.extend(point_numbers(
+            &no_grid().vsc_operating_point(&station, p_mw, v_dc_kv),
+        ));
+    }
+    Some(())
+}
+
+/// The Rust's operating points are methods of a grid, and look at nothing of it.
+fn no_grid() -> DcSwitchingSimulator {
+    DcSwitchingSimulator::new(1.0, 1.0)
+}
+
+/// How many numbers an operating point has.
+pub const POINT: usize = 7;
+
+fn point_numbers(point: &ConverterOperatingPoint) -> [u64; POINT] {
+    [
+        point.station_id as u64,
+        bits(point.p_dc_mw),
+        bits(point.v_dc_kv),
+        bits(point.i_dc_ka),
+        bits(point.firing_angle_deg),
+        bits(point.power_factor),
+        bits(point.losses_mw),
+    ]
+}
+
+// The studies that are answered up to their refusal: 0, or the number of the rule. Of what a refusal does not depend on, the
+// numbers are read, so that the next job begins where this one ends.
 
 fn fault_run(input: &mut impl Iterator<Item = u64>) -> Option<u64> {
     let grid = grids::grid(input)?;
@@ -144,7 +214,8 @@ fn floats(input: &mut impl Iterator<Item = u64>, output: &mut Vec<u64>) -> Optio
 mod tests {
     use super::*;
     use crate::dc_switching::{DcFaultEvent, DcFaultType};
-    use crate::plan::Plan;
+    use crate::numbers::NAN;
+    use crate::plan::{Plan, HYBRID_CONVERTER, LCC, MMC, TWO_LEVEL};
     use crate::sample;
 
     fn answered(numbers: &[u64]) -> Option<Vec<u64>> {
@@ -202,6 +273,130 @@ mod tests {
             answered(&plan.numbers()).unwrap(),
             [10_000, 2, 5001, 6, dt, duration, clearing, clearing]
         );
+    }
+
+    /// A station of 100 kV and 1,000 MW, without angle and reactances.
+    fn station(topology: u64, submodules: u64) -> [u64; 11] {
+        let mut station = [topology, submodules, 7, 0, 0, 0, 0, 0, 0, 0, 0];
+        station[3..5].copy_from_slice(&[100f64, 1000.0].map(f64::to_bits));
+        station
+    }
+
+    /// The answer, of which the first numbers are whole ones, and the rest doubles.
+    fn parted(plan: &Plan, whole: usize) -> (Vec<u64>, Vec<f64>) {
+        let answer = answered(&plan.numbers()).unwrap();
+        let doubles = answer[whole..].iter().map(|&x| double(x)).collect();
+        (answer[..whole].to_vec(), doubles)
+    }
+
+    fn assert_near(given: &[f64], expected: &[f64]) {
+        assert_eq!(given.len(), expected.len());
+        for (x, y) in given.iter().zip(expected) {
+            assert!((x - y).abs() <= 1e-12 * y.abs(), "{given:?} {expected:?}");
+        }
+    }
+
+    /// One station, no cable: converged in pass 1.
+    #[test]
+    fn flow_of_one_station() {
+        let mut plan = Plan::small(FLOW);
+        plan.counts = [1, 0, 0];
+        plan.stations = vec![station(TWO_LEVEL, 0)];
+        plan.cables.clear();
+        plan.breakers.clear();
+        let (whole, doubles) = parted(&plan, 3);
+        assert_eq!(whole, [0, 1, 1]);
+        // Total loss, id, P, V, I, angle, power factor, losses: 0.5 percent of the power.
+        let degrees = 180.0 / std::f64::consts::PI;
+        let id = f64::from_bits(7);
+        assert_near(&doubles, &[5.0, id, 0.0, 100.0, 0.0, degrees, 1.0, 5.0]);
+    }
+
+    /// Two stations of 100 kV and a cable of 1 ohm, through which the second takes 800 MW: v² - 100 v + 800 = 0. From 100 the
+    /// voltage goes to 92, 91.238, and nearer than 1e-6 in the third step; by then the mismatch is still above 1e-6.
+    #[test]
+    fn flow_of_two_stations() {
+        let mut plan = Plan::small(FLOW);
+        plan.counts = [2, 1, 0];
+        plan.stations = vec![station(TWO_LEVEL, 0); 2];
+        plan.cables = vec![[0, 0, 1, 1f64.to_bits(), 0, 0, 1f64.to_bits()]];
+        plan.breakers.clear();
+        let (whole, doubles) = parted(&plan, 3);
+        assert_eq!(whole, [0, 1, 5]);
+        let v = 50.0 + 1700f64.sqrt();
+        let i = 100.0 - v;
+        // No-load, by current and by its square, at a rated current of 10 kA.
+        let losses = [5.0 + 0.1 * i + 0.05 * i * i, 5.0 + 0.1 * i + 0.05 * i * i];
+        let total = i * i + losses[0] + losses[1];
+        let degrees = 180.0 / std::f64::consts::PI;
+        let id = f64::from_bits(7);
+        let first = [id, 100.0 * i, 100.0, i, degrees, 1.0, losses[0]];
+        let second = [id, -800.0, v, -i, degrees, 1.0, losses[1]];
+        let expected = [&[total][..], &first, &second, &[i * i]].concat();
+        assert_near(&doubles, &expected);
+    }
+
+    /// Without angle and reactance the voltage is the rated one; 0.7 percent of the power is lost, and 0.001 of the base
+    /// impedance, 10 ohms, at 2 kA.
+    #[test]
+    fn lcc_point_by_hand() {
+        let mut plan = Plan::small(LCC_POINT);
+        plan.stations = vec![station(LCC, 0)];
+        plan.rest = vec![2f64.to_bits()];
+        let (whole, doubles) = parted(&plan, 2);
+        assert_eq!(whole, [0, 7]);
+        assert_near(&doubles, &[200.0, 100.0, 2.0, 0.0, 1.0, 7.04]);
+        // At 1 pu of reactance the drop is 3/PI of 10 ohms at 2 kA, and the overlap 0.4.
+        plan.stations[0][8] = 1f64.to_bits();
+        let (_, doubles) = parted(&plan, 2);
+        let pi = std::f64::consts::PI;
+        let v = 100.0 - 60.0 / pi;
+        let overlap = 2.0 * 2.0 / 1000.0 * 100.0;
+        assert_near(&doubles, &[2.0 * v, v, 2.0, 0.0, 1.0 - overlap / 2.0, 7.04]);
+        // A NaN reaches all but the angle and the power factor, whose overlap is then the longest.
+        plan.rest = vec![u64::MAX];
+        let answer = answered(&plan.numbers()).unwrap();
+        assert_eq!(answer[2..6], [NAN, NAN, NAN, 0]);
+        assert_near(&[double(answer[6])], &[1.0 - pi / 8.0]);
+        assert_eq!(answer[7], NAN);
+    }
+
+    /// 200 MW at 100 kV, a fifth of the rated current: 5 + 0.2 + 0.2 MW, less for some topologies.
+    #[test]
+    fn vsc_point_by_hand() {
+        for (topology, submodules, part) in [
+            (LCC, 0, 0.6),
+            (TWO_LEVEL, 0, 1.0),
+            (MMC, 0, 1.0),
+            (MMC, 1, 1.0),
+            (MMC, 4, 0.75),
+            (HYBRID_CONVERTER, 0, 0.8),
+        ] {
+            let mut plan = Plan::small(VSC_POINT);
+            plan.stations = vec![station(topology, submodules)];
+            plan.rest = [200f64, 100.0].map(f64::to_bits).to_vec();
+            let (whole, doubles) = parted(&plan, 2);
+            assert_eq!(whole, [0, 7]);
+            let degrees = 180.0 / std::f64::consts::PI;
+            assert_near(&doubles, &[200.0, 100.0, 2.0, degrees, 1.0, 5.4 * part]);
+        }
+    }
+
+    #[test]
+    fn answers_of_their_length() {
+        for job in sample::jobs() {
+            let answer = answered(&job).unwrap();
+            let accepted = match job[0] {
+                FLOW => 4 + POINT as u64 * job[3] + job[4],
+                number if is_point(number) => 1 + POINT as u64,
+                FLOATS => continue,
+                TIMES => 7 + job[5].min(BREAKERS),
+                _ => 1,
+            };
+            let refused = job[0] != TIMES && answer[0] != 0;
+            let length = if refused { 1 } else { accepted };
+            assert_eq!(answer.len() as u64, length, "{job:?}");
+        }
     }
 
     #[test]

@@ -1,7 +1,9 @@
 //! A job on a grid in its parts, so that one field after another can be set, and the fields that document 01 gives a range.
 
 use crate::grids::{CABLES, STATIONS};
-use crate::jobs::{DETECTION, FAULT_RUN, FLOW, LCC_POINT, SWEEP, SWITCHING_RUN, TIMES};
+use crate::jobs::{
+    is_point, DETECTION, FAULT_RUN, FLOW, LCC_POINT, SWEEP, SWITCHING_RUN, TIMES, VSC_POINT,
+};
 use crate::numbers::NAN;
 use crate::rules::{self, Range};
 
@@ -17,7 +19,7 @@ pub struct Plan {
     pub breakers: Vec<[u64; 7]>,
     /// A fault, or a sweep order.
     pub event: Vec<u64>,
-    /// What no rule looks at: a current, a breaker number, calls. The states of a detection follow from the counts.
+    /// What no rule looks at: a current, power and voltage, a breaker number, calls. The states of a detection follow from the counts.
     pub rest: Vec<u64>,
 }
 
@@ -120,8 +122,11 @@ const CABLE: [(&str, Range); 4] = [
     ("length", rules::LENGTH),
 ];
 
-/// The topology that counts submodules.
+/// The topologies; an MMC alone counts submodules.
+pub const LCC: u64 = 0;
+pub const TWO_LEVEL: u64 = 1;
 pub const MMC: u64 = 2;
+pub const HYBRID_CONVERTER: u64 = 3;
 
 /// The kinds of breakers.
 pub const MECHANICAL: u64 = 0;
@@ -147,6 +152,7 @@ impl Plan {
             rest: match job {
                 FLOW | DETECTION | TIMES => Vec::new(),
                 LCC_POINT | FAULT_RUN | SWEEP => vec![0],
+                VSC_POINT => vec![0, 100f64.to_bits()],
                 SWITCHING_RUN => vec![0, 1, 0],
                 _ => panic!("job {job} has no grid"),
             },
@@ -158,7 +164,7 @@ impl Plan {
     /// The numbers in the order of the input.
     pub fn numbers(&self) -> Vec<u64> {
         let mut numbers = vec![self.job];
-        if self.job == LCC_POINT {
+        if is_point(self.job) {
             numbers.extend(self.stations[0]);
         } else {
             numbers.extend(self.times);
@@ -183,7 +189,7 @@ impl Plan {
         for (i, station) in self.stations.iter().enumerate() {
             station_fields(i, station, &mut fields);
         }
-        if self.job == LCC_POINT {
+        if is_point(self.job) {
             return fields;
         }
         for i in 0..self.cables.len() {

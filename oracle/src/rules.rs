@@ -4,7 +4,7 @@ use crate::dc_switching::{
     ConverterStation, ConverterTopology, DcBreaker, DcBreakerType, DcCable, DcFaultEvent,
 };
 use crate::grids::{Grid, SweepOrder};
-use crate::jobs::{DETECTION, FAULT_RUN, FLOW, LCC_POINT, SWEEP, SWITCHING_RUN};
+use crate::jobs::{DETECTION, FAULT_RUN, FLOW, LCC_POINT, SWEEP, SWITCHING_RUN, VSC_POINT};
 
 /// Accepted values, ends included.
 #[derive(Clone, Copy)]
@@ -61,7 +61,7 @@ const ORDER: [u64; 9] = [3, 1, 2, 4, 5, 6, 7, 8, 9];
 pub fn checked(job: u64) -> Vec<u64> {
     match job {
         FLOW => less(&[2, 4, 5, 9]),
-        LCC_POINT => vec![6],
+        LCC_POINT | VSC_POINT => vec![6],
         FAULT_RUN | SWEEP => less(&[]),
         SWITCHING_RUN => less(&[2, 9]),
         DETECTION => vec![3, 1, 6, 7, 8],
@@ -277,6 +277,7 @@ mod tests {
         assert_eq!(checked(FAULT_RUN), [3, 1, 2, 4, 5, 6, 7, 8, 9]);
         assert_eq!(checked(SWEEP), [3, 1, 2, 4, 5, 6, 7, 8, 9]);
         assert_eq!(checked(LCC_POINT), [6]);
+        assert_eq!(checked(VSC_POINT), [6]);
     }
 
     #[test]
@@ -288,7 +289,15 @@ mod tests {
                 assert_eq!(refusal(&plan), number);
             }
         }
-        for job in [FLOW, LCC_POINT, FAULT_RUN, SWITCHING_RUN, DETECTION, SWEEP] {
+        for job in [
+            FLOW,
+            LCC_POINT,
+            VSC_POINT,
+            FAULT_RUN,
+            SWITCHING_RUN,
+            DETECTION,
+            SWEEP,
+        ] {
             for (kv, number) in [(1999.9, 0), (0.5, 6)] {
                 let mut plan = Plan::small(job);
                 plan.stations[0][3] = f64::to_bits(kv);

@@ -1,7 +1,12 @@
 //! The fixed jobs on grids that the program `replay` is run on.
 
+mod flows;
+mod points;
+
 use crate::draw::{self, Random};
-use crate::jobs::{DETECTION, FAULT_RUN, FLOW, GRID_JOBS, LCC_POINT, SWEEP, SWITCHING_RUN, TIMES};
+use crate::jobs::{
+    DETECTION, FAULT_RUN, FLOW, GRID_JOBS, LCC_POINT, SWEEP, SWITCHING_RUN, TIMES, VSC_POINT,
+};
 use crate::numbers::NAN;
 use crate::plan::{Accepted, End, Plan, HYBRID, MECHANICAL, MMC, SOLID_STATE};
 
@@ -17,6 +22,8 @@ pub fn jobs() -> Vec<Vec<u64>> {
     counts(&mut plans);
     times(&mut plans);
     clearing_times(&mut plans);
+    flows::flows(&mut plans);
+    points::points(&mut plans);
     let mut jobs: Vec<Vec<u64>> = plans.iter().map(Plan::numbers).collect();
     random(&mut jobs);
     jobs
@@ -46,7 +53,7 @@ fn examples(plans: &mut Vec<Plan>) {
         plans.push(with_times(job, 1.0, 1000.0));
         plans.push(with_times(job, 1.0, 1001.0));
     }
-    for job in [FLOW, LCC_POINT, SWEEP] {
+    for job in [FLOW, LCC_POINT, VSC_POINT, SWEEP] {
         plans.push(with_rated_kv(job, 1999.9));
         plans.push(with_rated_kv(job, 0.5));
     }
@@ -427,8 +434,9 @@ fn random(jobs: &mut Vec<Vec<u64>>) {
 #[cfg(test)]
 mod tests {
     use super::*;
-    use crate::jobs::answer;
+    use crate::jobs::{answer, is_point};
     use crate::rules::checked;
+    use crate::tally::{Flows, Points};
     use std::collections::BTreeSet;
 
     fn refusal(numbers: Vec<u64>) -> u64 {
@@ -451,6 +459,26 @@ mod tests {
         }
     }
 
+    /// No accepted grid leads to a voltage that is no number; all else that is counted of random jobs is among the fixed ones.
+    #[test]
+    fn every_kind_of_flow_and_point() {
+        let (mut flows, mut points) = (Flows::default(), Points::default());
+        for job in jobs() {
+            let mut output = Vec::new();
+            answer(&mut job.iter().copied(), &mut output).expect("a whole job");
+            match job[0] {
+                FLOW if output[0] == 0 => flows.add(&job, &output),
+                number if is_point(number) && output[0] == 0 => points.add(&output),
+                _ => {}
+            }
+        }
+        assert_eq!(flows.not_finite, 0);
+        assert!(flows.largest_kv > 1e11);
+        for (name, count) in flows.counted().into_iter().chain(points.counted()) {
+            assert!(count > 0 || name == "a NaN or infinite voltage", "{name}");
+        }
+    }
+
     #[test]
     fn the_first_of_two_rules() {
         for job in STUDIES {
@@ -468,7 +496,7 @@ mod tests {
     /// Accepted at its ends, and refused by its rule beside them.
     #[test]
     fn every_field() {
-        for job in [LCC_POINT, FAULT_RUN, SWEEP] {
+        for job in [LCC_POINT, VSC_POINT, FAULT_RUN, SWEEP] {
             for kind in [MECHANICAL, SOLID_STATE, HYBRID] {
                 let mut plan = with_times(job, 1e6, 1.0);
                 plan.stations[0][0] = MMC;

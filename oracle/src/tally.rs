@@ -1,7 +1,14 @@
-//! What random jobs on grids met: their answers, and the values at the ends of what the rules accept.
+//! What random jobs on grids met: their answers, the values at the ends of what the rules accept, and the kinds of flows and
+//! operating points.
+
+mod flows;
+mod points;
+
+pub use flows::Flows;
+pub use points::Points;
 
 use crate::draw::Drawn;
-use crate::jobs::{GRID_JOBS, TIMES};
+use crate::jobs::{is_point, FLOW, GRID_JOBS, TIMES};
 use crate::plan::End;
 use crate::rules;
 use std::collections::BTreeMap;
@@ -11,17 +18,26 @@ use std::fmt;
 pub struct Tally {
     answers: BTreeMap<(u64, u64), u64>,
     ends: BTreeMap<(u64, &'static str, End), u64>,
+    flows: Flows,
+    points: Points,
 }
 
 impl Tally {
-    /// Adds a job on a grid with the first number of its answer.
-    pub fn add(&mut self, job: &Drawn, answer: u64) {
+    /// Adds a job on a grid with its answer.
+    pub fn add(&mut self, job: &Drawn, numbers: &[u64]) {
         let number = job.numbers[0];
+        let answer = numbers[0];
         if number == TIMES {
             *self.answers.entry((number, 0)).or_default() += 1;
             return;
         }
         *self.answers.entry((number, answer)).or_default() += 1;
+        if answer == 0 && number == FLOW {
+            self.flows.add(&job.numbers, numbers);
+        }
+        if answer == 0 && is_point(number) {
+            self.points.add(numbers);
+        }
         let checked = rules::checked(number);
         for put in &job.put {
             let asked = if put.end.is_accepted() { 0 } else { put.rule };
@@ -77,6 +93,7 @@ impl fmt::Display for Tally {
                 }
             }
         }
-        writeln!(f)
+        writeln!(f)?;
+        write!(f, "{}{}", self.flows, self.points)
     }
 }

@@ -1,9 +1,9 @@
 //! Jobs on grids: most fields lie well inside their ranges, and a few values stand at the ends of what the rules accept.
 
-use super::{Drawn, Put, Random};
+use super::{points, Drawn, Put, Random};
 use crate::dc_switching::{total_steps, DcSwitchingSimulator};
 use crate::grids::{BREAKERS, CABLES, STATIONS};
-use crate::jobs::{FAULT_RUN, LCC_POINT, SWEEP, SWITCHING_RUN, TIMES};
+use crate::jobs::{is_point, FAULT_RUN, LCC_POINT, SWEEP, SWITCHING_RUN, TIMES, VSC_POINT};
 use crate::numbers::double;
 use crate::plan::{Accepted, End, Field, Plan, MMC};
 use crate::rules::{Range, LAST_NUMBER, LAST_TENTH, MOST_STEPS};
@@ -45,7 +45,7 @@ fn aims(job: u64, random: &mut Random) -> Vec<u64> {
     let aims = random.pick(&[0, 1, 1, 1, 2, 2, 2, 3]);
     (0..aims)
         .map(|_| match job {
-            LCC_POINT => 6,
+            LCC_POINT | VSC_POINT => 6,
             // The last has many fields, and every other rule comes before it.
             FAULT_RUN | SWEEP => random.pick(&[1, 2, 3, 4, 5, 6, 7, 8, 9, 9, 9]),
             _ => 1 + random.below(8),
@@ -88,9 +88,9 @@ fn counts(aims: &[u64], random: &mut Random) -> [u64; 3] {
 /// A job with that many parts, accepted but for its counts.
 fn plan(job: u64, counts: [u64; 3], random: &mut Random) -> Plan {
     let mut plan = Plan::small(job);
-    if job == LCC_POINT {
+    if is_point(job) {
         plan.stations = vec![station(random)];
-        plan.rest = vec![random.bits()];
+        plan.rest = points::doubles(job, random);
     } else {
         plan.counts = counts;
         let parts = |i: usize| 0..counts[i].min(ROOM[i]);
@@ -99,7 +99,7 @@ fn plan(job: u64, counts: [u64; 3], random: &mut Random) -> Plan {
         plan.breakers = parts(2).map(|_| breaker(random)).collect();
     }
     for field in plan.fields() {
-        plan.set(&field, inside(field.accepted, random));
+        set_inside(&mut plan, &field, random);
     }
     plan.times = times(random);
     match job {
@@ -127,7 +127,7 @@ fn plan(job: u64, counts: [u64; 3], random: &mut Random) -> Plan {
 }
 
 /// A station of some topology. A number of submodules stands in it also where it does not count.
-fn station(random: &mut Random) -> [u64; 11] {
+pub fn station(random: &mut Random) -> [u64; 11] {
     let mut station = [0; 11];
     station[0] = random.below(4);
     if station[0] != MMC {
@@ -137,7 +137,7 @@ fn station(random: &mut Random) -> [u64; 11] {
 }
 
 /// A breaker of some kind. A second number stands in it also where it does not count.
-fn breaker(random: &mut Random) -> [u64; 7] {
+pub fn breaker(random: &mut Random) -> [u64; 7] {
     let mut breaker = [0; 7];
     breaker[2] = random.below(3);
     breaker[4] = random.bits();
@@ -157,27 +157,31 @@ fn calls(random: &mut Random) -> Vec<u64> {
     calls
 }
 
-fn inside(accepted: Accepted, random: &mut Random) -> u64 {
-    match accepted {
-        Accepted::Doubles(Range { low, high }) => {
-            let part = random.fraction();
-            let x = match random.below(3) {
-                0 => low + part * (high - low),
-                1 => (low + part * (high - low)).floor(),
-                // Small, as most are.
-                _ => low + part * part * part * (high - low) / 100.0,
-            };
-            x.to_bits()
-        }
+pub fn set_inside(plan: &mut Plan, field: &Field, random: &mut Random) {
+    let number = match field.accepted {
+        Accepted::Doubles(range) => inside(range, random),
         Accepted::Numbers(last) => match random.below(2) {
             0 => random.below(last + 1),
             _ => random.below(4),
         },
-    }
+    };
+    plan.set(field, number);
+}
+
+pub fn inside(range: Range, random: &mut Random) -> u64 {
+    let Range { low, high } = range;
+    let part = random.fraction();
+    let x = match random.below(3) {
+        0 => low + part * (high - low),
+        1 => (low + part * (high - low)).floor(),
+        // Small, as most are.
+        _ => low + part * part * part * (high - low) / 100.0,
+    };
+    x.to_bits()
 }
 
 /// Times with at most 900,001 steps.
-fn times(random: &mut Random) -> [u64; 2] {
+pub fn times(random: &mut Random) -> [u64; 2] {
     let steps = match random.below(4) {
         // Beside a multiple of 5,000 the recording interval changes, or the last step is recorded for itself.
         0 => (5000 * (1 + random.below(180)) + random.below(3)) as f64 - 1.0,
@@ -305,9 +309,9 @@ fn outside(accepted: Accepted, random: &mut Random) -> u64 {
 }
 
 /// The ends that more than one number decides: counts, steps, tenths.
-fn seen_in(plan: &Plan) -> Vec<Put> {
+pub fn seen_in(plan: &Plan) -> Vec<Put> {
     let mut put = Vec::new();
-    if plan.job == LCC_POINT {
+    if is_point(plan.job) {
         return put;
     }
     let mut add = |field, rule, end| put.push(Put { field, rule, end });

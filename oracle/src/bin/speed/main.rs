@@ -1,5 +1,7 @@
-//! Times the library's E, S, C and square root and its fastest breaker beside the Rust's, in one run and on the same arguments,
-//! and compares the results; and times the library's refusals, which the Rust does not have.
+//! Times the library's E, S, C and square root, its fastest breaker, its operating points and its flows beside the Rust's, in
+//! one run and on the same arguments, and compares the results; and times the library's refusals, which the Rust does not have.
+
+mod flows;
 
 use oracle::dc_switching::{
     self, fastest_clearing_ms, DcBreaker, DcBreakerType, DcSwitchingSimulator,
@@ -320,7 +322,7 @@ fn main() {
         let [root, e] = [best[0][1], best[1][1]];
         println!("a root takes {:.2} of the time of two E", root / (2.0 * e));
     }
-    different += fastest() + refusals();
+    different += fastest() + refusals() + flows::points() + flows::flows();
     println!("{different} results differ");
     exit(if different == 0 { 0 } else { 1 });
 }
