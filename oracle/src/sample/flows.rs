@@ -8,9 +8,12 @@ use crate::rules::{LAST_NUMBER, LENGTH, PER_KM, RATED_KV, RATED_MW};
 pub fn flows(plans: &mut Vec<Plan>) {
     one_station(plans);
     two_stations(plans);
+    least_divisor(plans);
     far_from_rated(plans);
     tolerance(plans);
+    last_pass(plans);
     clamped(plans);
+    mesh(plans);
     cables(plans);
     topologies(plans);
     full(plans);
@@ -79,8 +82,9 @@ fn two_stations(plans: &mut Vec<Plan>) {
         (100.0, 100.0, 1000.0, 1.0),
         (500.0, 500.0, 1000.0, 2.0),
         (500.0, 320.0, 1000.0, 2.0),
-        // More than the cable carries, just more, and as much.
-        (100.0, 100.0, 5000.0, 1.0),
+        // More than the cable carries, just more, and as much. Of the first, 0.8 times is not what dividing by 1.25 gives, and
+        // each pass makes such a difference larger.
+        (100.0, 100.0, 4999.9, 1.0),
         (320.0, 320.0, RATED_MW.high, 200.0),
         (100.0, 100.0, 3125.1, 1.0),
         (100.0, 100.0, 3125.0, 1.0),
@@ -102,6 +106,18 @@ fn two_stations(plans: &mut Vec<Plan>) {
             &[two_level(first_kv, 0.0), two_level(second_kv, mw)],
             &[cable(0, 1, ohms)],
         ));
+    }
+}
+
+/// Beside half the first voltage, 70 doubles on the divisor is below 1e-12, which moves nothing, and 71 on it is above.
+fn least_divisor(plans: &mut Vec<Plan>) {
+    let half = 50f64.to_bits();
+    for bits in [half - 71, half - 70, half + 70, half + 71] {
+        let mut stations = [two_level(100.0, 0.0); 3];
+        stations[1] = two_level(f64::from_bits(bits), 1000.0);
+        let star = [cable(0, 1, 1.0), cable(0, 2, 1.0)];
+        plans.push(flow(&stations[..2], &star[..1]));
+        plans.push(flow(&stations, &star));
     }
 }
 
@@ -142,6 +158,14 @@ fn tolerance(plans: &mut Vec<Plan>) {
     }
 }
 
+/// Converged in pass 49, in the last pass, and not.
+fn last_pass(plans: &mut Vec<Plan>) {
+    for mw in [6100.0, 6300.0, 6400.0] {
+        let stations = [two_level(500.0, mw); 3];
+        plans.push(flow(&stations, &[cable(0, 1, 2.0), cable(1, 2, 4.0)]));
+    }
+}
+
 /// Three stations and more, within their clamps and at both ends of them.
 fn clamped(plans: &mut Vec<Plan>) {
     let ring = [cable(0, 1, 2.0), cable(1, 2, 2.0), cable(2, 0, 2.0)];
@@ -172,6 +196,28 @@ fn clamped(plans: &mut Vec<Plan>) {
     ];
     let star = [cable(0, 1, 2.0), cable(2, 0, 2.0), cable(0, 3, 2.0)];
     plans.push(flow(&stations, &star));
+}
+
+/// Every two of five stations joined, each by another resistance, so that the order of every sum counts.
+fn mesh(plans: &mut Vec<Plan>) {
+    let even = [500.0, 400.0, 600.0, 450.0, 550.0];
+    let uneven = [500.0, 333.3, 700.7, 444.4, 555.5];
+    for (kv, mw, part) in [
+        (even, 0.0, 1.0),
+        (even, 1000.0, 10.0),
+        (even, 5000.0, 10.0),
+        (even, RATED_MW.high, 10.0),
+        (uneven, 5000.0, 10.0),
+    ] {
+        let stations = kv.map(|kv| two_level(kv, mw));
+        let pairs = (0..5).flat_map(|a| (a + 1..5).map(move |b| (a, b)));
+        let ohms = [2.0, 3.0, 5.0, 7.0, 11.0, 13.0, 17.0, 19.0, 23.0, 29.0];
+        let cables: Vec<Cable> = pairs
+            .zip(ohms)
+            .map(|((a, b), ohms)| cable(a, b, ohms * part))
+            .collect();
+        plans.push(flow(&stations, &cables));
+    }
 }
 
 /// Cables to a station itself, between the same two, past the count, and of the least resistance.

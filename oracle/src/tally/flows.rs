@@ -10,6 +10,7 @@ pub struct Flows {
     pub converged: u64,
     /// Pass 1, 2 to 5, 6 to 49, and 50 with or without convergence.
     pub passes: [u64; 4],
+    pub converged_last: u64,
     /// With one station, with two, with more.
     pub sizes: [u64; 3],
     pub full: u64,
@@ -39,6 +40,7 @@ impl Flows {
             6..=49 => 2,
             _ => 3,
         }] += 1;
+        self.converged_last += u64::from(converged == 1 && passes == 50);
         self.sizes[n.min(3) - 1] += 1;
         self.full += u64::from(n == 32 && grid.simulator.cables.len() == 64);
         self.add_voltages(&grid, &answer[4..4 + POINT * n]);
@@ -95,7 +97,7 @@ impl Flows {
     }
 
     /// What was counted, each with its name.
-    pub fn counted(&self) -> [(&'static str, u64); 18] {
+    pub fn counted(&self) -> [(&'static str, u64); 19] {
         let [one, two, more] = self.sizes;
         let [first, few, some, last] = self.passes;
         [
@@ -105,6 +107,7 @@ impl Flows {
             ("2 to 5 passes", few),
             ("6 to 49 passes", some),
             ("50 passes", last),
+            ("converged in pass 50", self.converged_last),
             ("one station", one),
             ("two stations", two),
             ("three stations or more", more),
