@@ -20,7 +20,7 @@ pub fn answer(lines: &mut [u8; ROOM], answers: &mut [u8; ROOM], c: Cursor) -> Af
         return After::Nothing(c);
     }
     let result = result_of(operation, float64::from_bits(a), float64::from_bits(b));
-    After::Job(numbers::append(answers, c, float64::to_bits(result)))
+    After::Job(numbers::append_double(answers, c, result))
 }
 
 // The operations that take one double ignore b.

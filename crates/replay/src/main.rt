@@ -1,6 +1,7 @@
 // Runs the studies on numbers, so that the Rust can be given the same ones and the answers compared line by line. Jobs are
 // read from standard input until it ends; their answers go to standard output.
 mod floats;
+mod flows;
 mod grids;
 mod numbers;
 mod studies;
@@ -22,8 +23,9 @@ fn answer(lines: &mut [u8; ROOM], answers: &mut [u8; ROOM], c: Cursor) -> After 
         return After::Nothing(c);
     };
     match job {
-        1 => studies::flow(lines, answers, c),
-        2 => studies::lcc_point(lines, answers, c),
+        1 => flows::flow(lines, answers, c),
+        2 => flows::lcc_point(lines, answers, c),
+        3 => flows::vsc_point(lines, answers, c),
         4 => studies::fault_run(lines, answers, c),
         5 => studies::switching_run(lines, answers, c),
         6 => studies::detection(lines, answers, c),

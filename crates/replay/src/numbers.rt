@@ -176,6 +176,11 @@ pub fn append(answers: &mut [u8; ROOM], c: Cursor, n: u64) -> Cursor {
     }
 }
 
+// A double is written by its bits.
+pub fn append_double(answers: &mut [u8; ROOM], c: Cursor, x: f64) -> Cursor {
+    append(answers, c, float64::to_bits(x))
+}
+
 // Writes out the answers that are left.
 pub fn write_rest(answers: &[u8; ROOM], c: Cursor) {
     let all: &[u8] = answers;

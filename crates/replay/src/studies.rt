@@ -1,8 +1,7 @@
-// Jobs 1, 2, 4, 5, 6 and 7, each up to its refusal: 0 for what is accepted, or the number of the rule that refuses it. A job is
+// Jobs 4, 5, 6 and 7, each up to its refusal: 0 for what is accepted, or the number of the rule that refuses it. A job is
 // read whole before it is answered, also where the answer does not depend on its last numbers.
 use crate::After;
 use crate::grids;
-use crate::grids::StationRead;
 use crate::numbers;
 use crate::numbers::Cursor;
 use crate::numbers::ROOM;
@@ -22,28 +21,6 @@ enum FaultRead {
 enum OrderRead {
     Order(SweepOrder, Cursor),
     Ended,
-}
-
-// Job 1: a grid.
-pub fn flow(lines: &mut [u8; ROOM], answers: &mut [u8; ROOM], c: Cursor) -> After {
-    let r = grids::read_grid(lines, c);
-    if r.ended {
-        return After::Nothing(c);
-    }
-    let g = r.grid;
-    let c = r.c;
-    refusal(answers, c, rules::check_flow(g))
-}
-
-// Job 2: a station and a current.
-pub fn lcc_point(lines: &mut [u8; ROOM], answers: &mut [u8; ROOM], c: Cursor) -> After {
-    let StationRead::Station(station, c) = grids::read_station(lines, c) else {
-        return After::Nothing(c);
-    };
-    let Skipped::To(c) = numbers::skip(lines, c, 1) else {
-        return After::Nothing(c);
-    };
-    refusal(answers, c, rules::check_operating_point(station))
 }
 
 // Job 4: a grid, a fault and calls.

@@ -1,6 +1,7 @@
 // The library's functions in loops, for a program in Rust to time and to compare.
 mod breakers;
 mod floats;
+mod flows;
 mod samples;
 mod studies;
 
@@ -9,4 +10,7 @@ pub use floats::sum_cos;
 pub use floats::sum_exp;
 pub use floats::sum_sin;
 pub use floats::sum_sqrt;
+pub use flows::solve_flows;
+pub use flows::sum_lcc_points;
+pub use flows::sum_vsc_points;
 pub use studies::count_accepted;

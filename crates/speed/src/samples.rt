@@ -46,7 +46,7 @@ fn with_breakers(g: DcSwitchingSimulator, breakers: u64) -> DcSwitchingSimulator
     grid
 }
 
-fn sample_station(id: u64) -> ConverterStation {
+pub fn sample_station(id: u64) -> ConverterStation {
     ConverterStation {
         id,
         topology: ConverterTopology::Mmc { n_submodules: 200 },
@@ -61,7 +61,7 @@ fn sample_station(id: u64) -> ConverterStation {
     }
 }
 
-fn sample_cable(id: u64) -> DcCable {
+pub fn sample_cable(id: u64) -> DcCable {
     DcCable {
         id,
         from_station: 0,
