@@ -3,3 +3,4 @@ pub mod Entries
 pub mod Columns
 pub mod Passes
 pub mod Points
+pub mod Claims

@@ -5,3 +5,4 @@ pub mod Balance
 pub mod Voltages
 pub mod Solution
 pub mod Flow
+pub mod Claims
