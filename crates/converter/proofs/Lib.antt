@@ -1,1 +1,4 @@
 pub mod Constants
+pub mod Claims
+pub mod Tied
+mod Controls

@@ -1,15 +1,14 @@
 -- The claims of specs/Claims. Assumes nothing.
 use Prim.Native.Nat.{ℕ, zero, suc, _+_, _-_, _≤_, _<_}
 use mathlib.Core.Path.{_≡_, refl, sym, ap, _∙_}
-use mathlib.Core.Bool.{Bool, true, false, cond}
-use mathlib.Core.List.{List, [], _∷_, _++_, foldl, foldl-append}
+use mathlib.Core.Bool.{true, false}
+use mathlib.Core.List.{List, [], _∷_, _++_, foldl-append}
 use mathlib.Core.Logic.{⊎-elim}
 use native.Mathlib.Omega.{arith}
 use native.Mathlib.Numerals.{add-one}
 use borrow.Author.Tests.{eq-eqb, ne-eqb}
-use lib.Dec.{eqb}
 use lib.ListN.{getD, getD-replicate}
-use lib.Ieee.{Float, lt, ofBits, round}
+use lib.Ieee.{lt, ofBits}
 use Rattle.lists.proofs.Fills.{getD-rest}
 use Rattle.lists.proofs.Counting.{by-test, contrary, eq-or-ne}
 use Rattle.float64.specs.Constants.{nought}
@@ -19,9 +18,9 @@ use Rattle.rules.specs.Studies.{flowRefusal}
 use Rattle.converter.specs.Answer.{blankPoint}
 use Rattle.power_flow.specs.declared.voltages.Voltages.{Voltages}
 use Rattle.power_flow.specs.Constants.{tolerance}
-use Rattle.power_flow.specs.Conductances.{within, joined, entry}
+use Rattle.power_flow.specs.Conductances.{joined, entry}
 use Rattle.power_flow.specs.Balance.{wantedPowers}
-use Rattle.power_flow.specs.Voltages.{largestAt, after, passes, voltages, ratedVoltages}
+use Rattle.power_flow.specs.Voltages.{passes, voltages, ratedVoltages}
 use Rattle.power_flow.specs.Flow.{conductancesOf, voltagesOf, solutionAt, solutionOf, blankSolution, flowAnswer}
 use Rattle.power_flow.specs.Claims.{MatrixClaims, voltagesAfter, mismatchAfter, Stops, Spent, PassClaims, AnswerClaims}
 use Rattle.power_flow.proofs.Entries.{matrix-cell, entry-swaps}

@@ -4,3 +4,5 @@ pub mod Columns
 pub mod Passes
 pub mod Points
 pub mod Claims
+pub mod Tied
+mod Controls
