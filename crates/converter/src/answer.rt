@@ -1,7 +1,11 @@
 // What is known of a station in the steady state, beside whether it was accepted.
 ghost use mathlib.Core.Path.{_≡_};
-ghost use Rattle.converter.specs.Answer.{blankPoint};
+ghost use Rattle.rules.specs.Studies.{numberOf, pointRefusal};
+ghost use Rattle.converter.specs.Answer.{blankPoint, accepted};
+use grid::ConverterStation;
 use rules::Verdict;
+use rules::check_operating_point;
+use rules::number;
 
 // 000's operating point.
 pub struct ConverterOperatingPoint {
@@ -18,6 +22,20 @@ pub struct ConverterOperatingPoint {
 pub struct PointAnswer {
     pub verdict: Verdict,
     pub point: ConverterOperatingPoint,
+}
+
+// A station's point, if the station is accepted.
+pub fn answered(station: ConverterStation, point: ConverterOperatingPoint) -> PointAnswer
+    ensures { λ r. ⌜ (numberOf (r .verdict) ≡ pointRefusal station) × (r .point ≡ accepted station point) ⌝ }
+{
+    let verdict = check_operating_point(station);
+    if number(verdict) == 0 {
+        return PointAnswer { verdict, point };
+    }
+    PointAnswer {
+        verdict,
+        point: no_point(),
+    }
 }
 
 pub fn no_point() -> ConverterOperatingPoint

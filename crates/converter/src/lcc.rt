@@ -4,7 +4,7 @@ ghost use Rattle.rules.specs.Studies.{numberOf, pointRefusal};
 ghost use Rattle.converter.specs.Lcc.{cosAlpha, baseImpedance, lccVoltage, lccPowerFactor, lccLosses, lccPoint, lccAnswer};
 use crate::answer::ConverterOperatingPoint;
 use crate::answer::PointAnswer;
-use crate::answer::no_point;
+use crate::answer::answered;
 use float64::PI;
 use float64::SQRT_2;
 use float64::abs;
@@ -14,8 +14,6 @@ use float64::max;
 use float64::min;
 use float64::to_radians;
 use grid::ConverterStation;
-use rules::check_operating_point;
-use rules::number;
 
 // What a rated power is raised to where it divides.
 const LEAST_POWER_MW: f64 = 0.000001;
@@ -24,17 +22,7 @@ const LEAST_POWER_MW: f64 = 0.000001;
 pub fn lcc_operating_point(station: ConverterStation, i_dc_ka: f64) -> PointAnswer
     ensures { λ r. ⌜ (numberOf (r .verdict) ≡ pointRefusal station) × (r .point ≡ lccAnswer station «i_dc_ka») ⌝ }
 {
-    let verdict = check_operating_point(station);
-    if number(verdict) == 0 {
-        return PointAnswer {
-            verdict,
-            point: lcc_point(station, i_dc_ka),
-        };
-    }
-    PointAnswer {
-        verdict,
-        point: no_point(),
-    }
+    answered(station, lcc_point(station, i_dc_ka))
 }
 
 // The point of any station, accepted or not.

@@ -4,7 +4,7 @@ ghost use Rattle.rules.specs.Studies.{numberOf, pointRefusal};
 ghost use Rattle.converter.specs.Vsc.{modulation, lossesAt, lossFactor, vscPoint, vscAnswer};
 use crate::answer::ConverterOperatingPoint;
 use crate::answer::PointAnswer;
-use crate::answer::no_point;
+use crate::answer::answered;
 use float64::PI;
 use float64::abs;
 use float64::clamp;
@@ -13,8 +13,6 @@ use float64::sqrt;
 use grid::ConverterStation;
 use grid::ConverterTopology;
 use grid::counted_submodules;
-use rules::check_operating_point;
-use rules::number;
 use std::num::nearest_u64_to_f64;
 
 // What a voltage, and a current where it divides, is raised to.
@@ -27,17 +25,7 @@ const ROOT_OF_3_2: f64 = 1.224744871391589;
 pub fn vsc_operating_point(station: ConverterStation, p_mw: f64, v_dc_kv: f64) -> PointAnswer
     ensures { λ r. ⌜ (numberOf (r .verdict) ≡ pointRefusal station) × (r .point ≡ vscAnswer station «p_mw» «v_dc_kv») ⌝ }
 {
-    let verdict = check_operating_point(station);
-    if number(verdict) == 0 {
-        return PointAnswer {
-            verdict,
-            point: vsc_point(station, p_mw, v_dc_kv),
-        };
-    }
-    PointAnswer {
-        verdict,
-        point: no_point(),
-    }
+    answered(station, vsc_point(station, p_mw, v_dc_kv))
 }
 
 // The point of any station, accepted or not.
