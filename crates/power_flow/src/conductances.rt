@@ -46,7 +46,7 @@ fn store(m: &mut [f64; 1024], from: usize, to: usize, g: f64)
     m[to * 32 + from] = m[to * 32 + from] - g;
 }
 
-// In kΩ. A cable without resistance has a very small one.
+// A cable without resistance has a very small one.
 pub fn cable_resistance(c: DcCable) -> f64
     ensures { λ r. ⌜ r ≡ resistance c ⌝ }
 {
