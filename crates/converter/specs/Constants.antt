@@ -16,7 +16,7 @@ half = ofBits binary64 0x3fe0_0000_0000_0000
 abbrev pub threeHalves : Float
 threeHalves = ofBits binary64 0x3ff8_0000_0000_0000
 
--- what a rated power, a voltage or a current is raised to where it divides
+-- what a voltage, and a rated power or a current that divides, is raised to
 abbrev pub least : Float
 least = ofBits binary64 0x3eb0_c6f7_a0b5_ed8d
 

@@ -5,6 +5,7 @@ ghost use Rattle.converter.specs.Lcc.{cosAlpha, baseImpedance, lccVoltag
 use crate::answer::ConverterOperatingPoint;
 use crate::answer::PointAnswer;
 use crate::answer::answered;
+use crate::floor::LEAST;
 use float64::PI;
 use float64::SQRT_2;
 use float64::abs;
@@ -14,9 +15,6 @@ use float64::max;
 use float64::min;
 use float64::to_radians;
 use grid::ConverterStation;
-
-// What a rated power is raised to where it divides.
-const LEAST_POWER_MW: f64 = 0.000001;
 
 // DcSwitchingSimulator::lcc_operating_point
 pub fn lcc_operating_point(station: ConverterStation, i_dc_ka: f64) -> PointAnswer
@@ -48,7 +46,7 @@ fn base_impedance(station: ConverterStation) -> f64
     ensures { λ r. ⌜ r ≡ baseImpedance station ⌝ }
 {
     let v = station.v_dc_rated_kv;
-    v * v / max(station.p_rated_mw, LEAST_POWER_MW)
+    v * v / max(station.p_rated_mw, LEAST)
 }
 
 fn voltage(station: ConverterStation, cos_alpha: f64, z_base: f64, i_dc_ka: f64) -> f64
@@ -66,7 +64,7 @@ fn power_factor(station: ConverterStation, cos_alpha: f64, i_dc_ka: f64) -> f64
     requires { ⌜ «cos_alpha» ≡ cosAlpha station ⌝ }
     ensures { λ r. ⌜ r ≡ lccPowerFactor station «i_dc_ka» ⌝ }
 {
-    let p = max(station.p_rated_mw, LEAST_POWER_MW);
+    let p = max(station.p_rated_mw, LEAST);
     let drop = 2.0 * station.x_commutation_pu * i_dc_ka / p * station.v_dc_rated_kv;
     let mu_arg = clamp(cos_alpha - drop, -1.0, 1.0);
     let mu_rad = min(abs(cos_alpha - mu_arg), PI / 4.0);

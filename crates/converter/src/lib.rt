@@ -1,5 +1,6 @@
 // Operating points of converters, line-commutated (LCC) and voltage-source (VSC).
 mod answer;
+mod floor;
 mod lcc;
 mod vsc;
 

@@ -5,6 +5,7 @@ ghost use Rattle.converter.specs.Vsc.{modulation, lossesAt, lossFactor, 
 use crate::answer::ConverterOperatingPoint;
 use crate::answer::PointAnswer;
 use crate::answer::answered;
+use crate::floor::LEAST;
 use float64::PI;
 use float64::abs;
 use float64::clamp;
@@ -14,9 +15,6 @@ use grid::ConverterStation;
 use grid::ConverterTopology;
 use grid::counted_submodules;
 use std::num::nearest_u64_to_f64;
-
-// What a voltage, and a current where it divides, is raised to.
-const LEAST: f64 = 0.000001;
 
 // The root of 1.5.
 const ROOT_OF_3_2: f64 = 1.224744871391589;

@@ -73,16 +73,6 @@ module _ {ℓ} {A : Type ℓ} where
   pub is-tab : (n : ℕ) (f : ℕ → A) (z : A) (x : List A) → length x ≡ n → ((k : ℕ) → k < n → getD x k z ≡ f k) → x ≡ tab n f
   is-tab n f z x e h = ext-getD z x (tab n f) (e ∙ sym (length-tab n f)) (λ k l. h k (rw e at l) ∙ sym (getD-tab n f z k (rw e at l)))
 
-  -- a filled array that was z everywhere, and stays so past n
-  pub upto-blank : (n m : ℕ) (f : ℕ → A) (z : A) → n ≤ m → ((k : ℕ) → n ≤ k → f k ≡ z) → upto n f (blank m z) ≡ tab m f
-  unfolding blank
-  upto-blank n m f z l h =
-      is-tab m f z (upto n f (replicate m z)) (length-upto n f _ ∙ length-replicate m z)
-      (λ k lk. ⊎-elim
-      (λ a. getD-upto-in n f (replicate m z) z k a (rw length-replicate lk))
-      (λ b. getD-upto-out n f (replicate m z) z k b ∙ getD-replicate m k z z lk ∙ sym (h k b))
-      (lt-or-le k n))
-
   -- an array of which the first n elements are written
   pub upto-over : (n : ℕ) (f : ℕ → A) (z : A) (d : List A) → upto n f d ≡ over n f z d
   unfolding over
@@ -125,10 +115,6 @@ module _ {ℓ} {A : Type ℓ} where
       (λ a. rw (lt-ltb k n a) (getD-upto-in n f (replicate m z) z k a (rw length-replicate lk)))
       (λ b. rw (le-ltb k n b) (getD-upto-out n f (replicate m z) z k b ∙ getD-replicate m k z z lk))
       (lt-or-le k n))
-
-  pub length-padded : (m n : ℕ) (f : ℕ → A) (z : A) → length (padded m n f z) ≡ m
-  unfolding padded
-  length-padded m n f z = length-tab m _
 
   pub getD-padded : (m n : ℕ) (f : ℕ → A) (z d : A) (k : ℕ) → k < n → n ≤ m → getD (padded m n f z) k d ≡ f k
   unfolding padded

@@ -1,11 +1,14 @@
 -- `solve_dc_power_flow` meets its contract. Assumes nothing.
+use mathlib.Core.List.{List}
+use lib.Ieee.{Float}
+use Rattle.power_flow.specs.Symmetric.{Symmetric}
 use Rattle.power_flow.proofs.Entries.{matrix-symmetric}
-use Rattle.power_flow.specs.Flow.{flowAnswer}
+use Rattle.power_flow.specs.Flow.{conductancesOf, flowAnswer}
 use Rattle.rules.proofs.Sizes.{size-claims}
 use Rattle.rules.specs.Claims.{Sizes}
 use Rattle.rules.specs.Studies.{flowRefusal}
 use Rattle.grid.specs.Simulator.{cablesOf}
-use mathlib.Core.Path.{refl, sym, _∙_}
+use mathlib.Core.Path.{_≡_, refl, sym, _∙_}
 use Prim.Native.Nat.{_-_}
 use Rattle.lists.specs.Tables.{blank}
 use Rattle.lists.proofs.Counting.{yes, no}
@@ -15,6 +18,12 @@ use Rattle.power_flow.proofs.flow.solve_dc_power_flow.Tie as tie
 
 sized : (c : tie.Then1) → Sizes (c .before .before .before .args .g)
 sized c = size-claims .flow (c .before .before .before .args .g) (sym (c .before .before .check-flow .ensures) ∙ sym (c .before .number .ensures) ∙ c .if1 .taken)
+
+-- the matrix that the code has is the grid's, and so is symmetric
+alike : (c : tie.Then1) (m : List Float) → m ≡ conductancesOf (c .before .before .before .args .g) → Symmetric (c .before .before .before .args .g .«n_stations») m
+alike c m e a b la lb =
+    let g = c .before .before .before .args .g in
+    rw e (matrix-symmetric (g .«n_stations») (cablesOf g) (sized c .stations) a b la lb)
 
 check-flow-requires : tie.Need-check-flow-requires
 check-flow-requires c κs = search needs
@@ -30,16 +39,14 @@ find-voltages-requires : tie.Need-find-voltages-requires
 find-voltages-requires c κs =
     let i = c .before .before .before .before .before in
     let z = sized i in
-    let g = i .before .before .before .args .g in
-    (z .some-station, z .stations, λ a b la lb. rw (c .before .conductances .ensures) (matrix-symmetric (g .«n_stations») (cablesOf g) (z .stations) a b la lb))
+    (z .some-station, z .stations, alike i _ (c .before .conductances .ensures))
 
 solution-at-requires : tie.Need-solution-at-requires
 solution-at-requires c κs =
     let k = c .before .before .before in
     let i = k .before .before .before .before in
     let z = sized i in
-    let g = i .before .before .before .args .g in
-    (z .some-station, z .stations, z .cables, λ a b la lb. rw (k .conductances .ensures) (matrix-symmetric (g .«n_stations») (cablesOf g) (z .stations) a b la lb))
+    (z .some-station, z .stations, z .cables, alike i _ (k .conductances .ensures))
 
 returns : tie.Need-returns
 unfolding flowAnswer
