@@ -21,3 +21,4 @@ pub mod RootOfSquare
 pub mod Claims
 pub mod Tied
 mod Controls
+pub mod Sums

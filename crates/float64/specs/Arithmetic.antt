@@ -1,6 +1,8 @@
 -- Every + - * / is rounded once: the operations in a circle. Definitions only.
 use Prim.Native.Nat.{ℕ, zero, suc}
-use lib.Ieee.{Float, binary64, add, sub, mul, div}
+use mathlib.Core.List.{List}
+use lib.ListN.{getD}
+use lib.Ieee.{Float, nan, binary64, add, sub, mul, div}
 use Rattle.float64.specs.Constants.{nought}
 
 infixl 60 _⊕_
@@ -22,6 +24,10 @@ x ⊘ y = div binary64 x y
 -- `powi(2)` is v times v
 abbrev pub squared : Float → Float
 squared v = v ⊗ v
+
+-- the number that stands at a position of an array
+abbrev pub of : List Float → ℕ → Float
+of v i = getD v i nan
 
 -- s and then f 0, f 1, .., f (n - 1), added one after the other
 abbrev pub addedUp : Float → (ℕ → Float) → ℕ → Float

@@ -1,4 +1,5 @@
 pub mod Ranges
 pub mod Parts
 pub mod Simulator
+pub mod Cables
 pub mod Claims

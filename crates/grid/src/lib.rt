@@ -1,8 +1,11 @@
 // A grid, an event and an order by value, with the names of document 000, and the table of accepted values.
+mod cables;
 mod parts;
 pub mod ranges;
 mod simulator;
 
+pub use cables::cable_resistance;
+pub use cables::cut_end;
 pub use parts::ConverterStation;
 pub use parts::ConverterTopology;
 pub use parts::DcBreaker;

@@ -7,10 +7,9 @@ use lib.Ieee.{Float, nan}
 use Rattle.lists.specs.Tables.{blank, over, padded}
 use Rattle.lists.proofs.Fills.{over-padded, blank-padded, padded-same, getD-padded}
 use Rattle.float64.specs.Constants.{nought}
-use Rattle.float64.specs.Arithmetic.{_⊕_, _⊗_, sumOf}
+use Rattle.float64.specs.Arithmetic.{_⊕_, _⊗_, sumOf, of}
 use Rattle.power_flow.specs.Conductances.{cell}
 use Rattle.power_flow.specs.Symmetric.{Symmetric}
-use Rattle.power_flow.specs.Balance.{of}
 
 -- the sums of the first j products of each row
 abbrev pub partSums : List Float → ℕ → List Float → ℕ → List Float

@@ -18,7 +18,8 @@ use Rattle.converter.specs.declared.answer.ConverterOperatingPoint.{ConverterOp
 use Rattle.converter.specs.Lcc.{lccPoint}
 use Rattle.converter.specs.Vsc.{vscPoint, modulation, lossFactor}
 use Rattle.power_flow.specs.Conductances.{entry, matrix}
-use Rattle.power_flow.specs.Balance.{of, current, butFirst}
+use Rattle.float64.specs.Arithmetic.{of}
+use Rattle.power_flow.specs.Balance.{current, butFirst}
 use Rattle.power_flow.specs.Constants.{idleDivisor}
 use Rattle.power_flow.specs.Voltages.{moved, clamped, movedOfTwo, divisor, movedTo, passes, voltages}
 use Rattle.power_flow.specs.Solution.{isLcc, operatingPoint, pointOf, cableLoss, lossOf, totalLosses}

@@ -8,8 +8,8 @@ use lib.Dec.{eqb}
 use lib.Ieee.{Float, nan, lt}
 use Rattle.lists.proofs.Fills.{padded-same, getD-padded}
 use Rattle.float64.specs.Constants.{nought}
-use Rattle.float64.specs.Arithmetic.{_⊖_, _⊗_}
-use Rattle.power_flow.specs.Balance.{of, current, currents, power, butFirst, mismatches, largest}
+use Rattle.float64.specs.Arithmetic.{_⊖_, _⊗_, of}
+use Rattle.power_flow.specs.Balance.{current, currents, power, butFirst, mismatches, largest}
 use Rattle.power_flow.specs.Constants.{tolerance}
 use Rattle.power_flow.specs.Voltages.{largestAt, after, movedAll, passes}
 

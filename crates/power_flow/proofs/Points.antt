@@ -8,12 +8,12 @@ use lib.Ieee.{Float, nan}
 use Rattle.lists.specs.Tables.{padded}
 use Rattle.lists.proofs.Fills.{padded-same, getD-padded}
 use Rattle.float64.specs.Constants.{nought}
-use Rattle.float64.specs.Arithmetic.{addedUp, sumOf}
+use Rattle.float64.specs.Arithmetic.{addedUp, sumOf, of}
 use Rattle.grid.specs.Simulator.{blankStation}
 use Rattle.grid.specs.declared.parts.ConverterStation.{ConverterStation}
 use Rattle.converter.specs.declared.answer.ConverterOperatingPoint.{ConverterOperatingPoint}
 use Rattle.converter.specs.Answer.{blankPoint}
-use Rattle.power_flow.specs.Balance.{of, current, currents}
+use Rattle.power_flow.specs.Balance.{current, currents}
 use Rattle.power_flow.specs.Solution.{operatingPoint, pointOf, operatingPoints}
 
 -- what the code computes of them, and their losses

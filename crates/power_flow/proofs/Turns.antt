@@ -10,9 +10,9 @@ use lib.Dec.{eqb}
 use lib.ListN.{set}
 use lib.Ieee.{Float}
 use Rattle.float64.specs.Constants.{nought}
-use Rattle.float64.specs.Arithmetic.{_⊕_, addedUp}
+use Rattle.float64.specs.Arithmetic.{_⊕_, of}
 use Rattle.float64.specs.Choice.{maxOf, absOf}
-use Rattle.power_flow.specs.Balance.{of, largest}
+use Rattle.power_flow.specs.Balance.{largest}
 use Rattle.power_flow.specs.Voltages.{sumWithout, clamped, moved, divisor, movedTo}
 
 -- a station after the first is not the first
@@ -21,9 +21,6 @@ later f i = rw (ne-eqb (i + 1) 0 (λ e. omega arith))
 
 pub largest-more : (d : List Float) (i : ℕ) {most x : Float} → most ≡ largest d i → x ≡ absOf (of d (i + 1)) → maxOf most x ≡ largest d (i + 1)
 largest-more d i e h = rw (e, h, add-one)
-
-pub added-more : (s : Float) (f : ℕ → Float) (i : ℕ) {sum x : Float} → sum ≡ addedUp s f i → x ≡ f i → sum ⊕ x ≡ addedUp s f (i + 1)
-added-more s f i e h = rw (add-one, e, h)
 
 -- a product that belongs to a sum without one of them
 pub without-more : (i : ℕ) (f : ℕ → Float) (j : ℕ) {sum x : Float} → (j ≡ i → ⊥) → sum ≡ sumWithout i f j → x ≡ f j → sum ⊕ x ≡ sumWithout i f (j + 1)

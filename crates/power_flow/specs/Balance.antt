@@ -4,19 +4,15 @@ use mathlib.Core.Bool.{cond}
 use mathlib.Core.List.{List}
 use lib.Dec.{eqb}
 use lib.ListN.{getD}
-use lib.Ieee.{Float, nan, neg}
+use lib.Ieee.{Float, neg}
 use Rattle.lists.specs.Tables.{padded}
 use Rattle.float64.specs.Constants.{nought}
-use Rattle.float64.specs.Arithmetic.{_⊖_, _⊗_, sumOf}
+use Rattle.float64.specs.Arithmetic.{_⊖_, _⊗_, of, sumOf}
 use Rattle.float64.specs.Choice.{maxOf, absOf}
 use Rattle.grid.specs.Simulator.{blankStation}
 use Rattle.grid.specs.declared.parts.ConverterStation.{ConverterStation}
 use Rattle.power_flow.specs.Constants.{loading}
 use Rattle.power_flow.specs.Conductances.{cell}
-
--- the number that stands at a station's position
-abbrev pub of : List Float → ℕ → Float
-of v i = getD v i nan
 
 -- the current of station i: G(i,0)·V0 + G(i,1)·V1 + ..
 unfoldable pub current : List Float → ℕ → List Float → ℕ → Float

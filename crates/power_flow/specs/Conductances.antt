@@ -7,14 +7,9 @@ use lib.ListN.{length, getD}
 use lib.Ieee.{Float, nan}
 use Rattle.lists.specs.Tables.{tab}
 use Rattle.float64.specs.Constants.{nought, one}
-use Rattle.float64.specs.Arithmetic.{_⊕_, _⊖_, _⊗_, _⊘_}
-use Rattle.float64.specs.Choice.{maxOf}
+use Rattle.float64.specs.Arithmetic.{_⊕_, _⊖_, _⊘_}
 use Rattle.grid.specs.declared.parts.DcCable.{DcCable}
-use Rattle.power_flow.specs.Constants.{leastResistance}
-
--- r at least 1e-9
-abbrev pub resistance : DcCable → Float
-resistance c = maxOf (c .«r_per_km» ⊗ c .«length_km») leastResistance
+use Rattle.grid.specs.Cables.{resistance}
 
 abbrev pub conductance : DcCable → Float
 conductance c = one ⊘ resistance c

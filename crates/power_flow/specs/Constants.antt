@@ -4,10 +4,6 @@ use Prim.Native.Nat.{ℕ, _^_}
 use lib.Ieee.{Float, binary64, ofBits, round}
 use Rattle.float64.specs.Constants.{decimal}
 
--- r at least 1e-9
-abbrev pub leastResistance : Float
-leastResistance = ofBits binary64 0x3e11_2e0b_e826_d695
-
 -- the part of its rated power that a station takes
 abbrev pub loading : Float
 loading = ofBits binary64 0x3fe9_9999_9999_999a
@@ -32,11 +28,10 @@ abbrev pub mostPasses : ℕ
 mostPasses = 50
 
 pub constants-are
-    : (leastResistance ≡ decimal 1 (10 ^ 9))
-    × (loading ≡ decimal 8 10)
+    : (loading ≡ decimal 8 10)
     × (tolerance ≡ decimal 1 (10 ^ 6))
     × (idleDivisor ≡ decimal 1 (10 ^ 12))
     × (lowPart ≡ decimal 5 10)
     × (highPart ≡ decimal 15 10)
 unfolding ofBits round
-constants-are = (refl, refl, refl, refl, refl, refl)
+constants-are = (refl, refl, refl, refl, refl)

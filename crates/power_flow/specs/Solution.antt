@@ -1,12 +1,12 @@
 -- Operating points and losses at given voltages. Definitions only.
-use Prim.Native.Nat.{ℕ, _-_, min}
+use Prim.Native.Nat.{ℕ}
 use mathlib.Core.Bool.{Bool, true, false, cond}
 use mathlib.Core.List.{List}
 use lib.ListN.{getD}
 use lib.Ieee.{Float}
 use Rattle.lists.specs.Tables.{padded}
 use Rattle.float64.specs.Constants.{nought}
-use Rattle.float64.specs.Arithmetic.{_⊖_, _⊗_, _⊘_, addedUp, sumOf}
+use Rattle.float64.specs.Arithmetic.{_⊖_, _⊗_, _⊘_, addedUp, sumOf, of}
 use Rattle.float64.specs.Choice.{absOf}
 use Rattle.grid.specs.Simulator.{blankStation, blankCable}
 use Rattle.grid.specs.declared.parts.ConverterStation.{ConverterStation}
@@ -17,8 +17,8 @@ use Rattle.converter.specs.declared.answer.ConverterOperatingPoint.{ConverterOp
 use Rattle.converter.specs.Answer.{blankPoint}
 use Rattle.converter.specs.Lcc.{lccPoint}
 use Rattle.converter.specs.Vsc.{vscPoint}
-use Rattle.power_flow.specs.Conductances.{resistance}
-use Rattle.power_flow.specs.Balance.{of, current}
+use Rattle.grid.specs.Cables.{resistance, cut}
+use Rattle.power_flow.specs.Balance.{current}
 
 unfoldable pub isLcc : ConverterTopology → Bool
 isLcc Lcc = true
@@ -51,9 +51,6 @@ abbrev pub operatingPoints : List ConverterStation → ℕ → List Float → Li
 operatingPoints stations n m v = padded 32 n (pointOf stations n m v) blankPoint
 
 -- its loss uses the end cut to the last station
-abbrev pub cut : ℕ → ℕ → ℕ
-cut n k = min k (n - 1)
-
 abbrev pub cableCurrent : ℕ → List Float → DcCable → Float
 cableCurrent n v c = (of v (cut n (c .«from_station»)) ⊖ of v (cut n (c .«to_station»))) ⊘ resistance c
 

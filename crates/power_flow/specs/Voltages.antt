@@ -7,14 +7,14 @@ use lib.ListN.{getD, set}
 use lib.Ieee.{Float, lt}
 use Rattle.lists.specs.Tables.{padded}
 use Rattle.float64.specs.Constants.{nought, two}
-use Rattle.float64.specs.Arithmetic.{_⊕_, _⊗_, _⊘_}
+use Rattle.float64.specs.Arithmetic.{_⊕_, _⊗_, _⊘_, of}
 use Rattle.float64.specs.Choice.{absOf, clampOf}
 use Rattle.grid.specs.Simulator.{blankStation}
 use Rattle.grid.specs.declared.parts.ConverterStation.{ConverterStation}
 use Rattle.power_flow.specs.declared.voltages.Voltages.{Voltages}
 use Rattle.power_flow.specs.Constants.{tolerance, idleDivisor, lowPart, highPart, mostPasses}
 use Rattle.power_flow.specs.Conductances.{cell}
-use Rattle.power_flow.specs.Balance.{of, wantedPowers, mismatches, largest}
+use Rattle.power_flow.specs.Balance.{wantedPowers, mismatches, largest}
 
 -- a voltage moved by its mismatch over a divisor that is not near zero
 unfoldable pub moved : Float → Float → Float → Float

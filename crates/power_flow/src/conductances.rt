@@ -4,9 +4,9 @@ ghost use Prim.Native.Nat.{_≤_, _<_};
 ghost use lib.ListN.{take};
 ghost use Rattle.lists.specs.Tables.{blank};
 ghost use Rattle.float64.specs.Constants.{nought};
-ghost use Rattle.power_flow.specs.Conductances.{resistance, joining, joined, eachEntry, matrix};
-use float64::max;
+ghost use Rattle.power_flow.specs.Conductances.{joining, joined, eachEntry, matrix};
 use grid::DcCable;
+use grid::cable_resistance;
 
 // Cable after cable, so that each entry is added up in the cables' order.
 pub fn conductances(m: &mut [f64; 1024], cables: [DcCable; 64], n_cables: usize, n: usize)
@@ -44,11 +44,4 @@ fn store(m: &mut [f64; 1024], from: usize, to: usize, g: f64)
     m[to * 32 + to] = m[to * 32 + to] + g;
     m[from * 32 + to] = m[from * 32 + to] - g;
     m[to * 32 + from] = m[to * 32 + from] - g;
-}
-
-// A cable without resistance has a very small one.
-pub fn cable_resistance(c: DcCable) -> f64
-    ensures { λ r. ⌜ r ≡ resistance c ⌝ }
-{
-    max(c.r_per_km * c.length_km, 0.000000001)
 }

@@ -3,13 +3,11 @@ ghost use mathlib.Core.Path.{_≡_};
 ghost use Prim.Native.Nat.{_≤_, _<_};
 ghost use Rattle.lists.specs.Tables.{blank, padded};
 ghost use Rattle.float64.specs.Constants.{nought};
-ghost use Rattle.float64.specs.Arithmetic.{_⊗_, addedUp, sumOf};
+ghost use Rattle.float64.specs.Arithmetic.{_⊗_, addedUp, sumOf, of};
 ghost use Rattle.converter.specs.Answer.{blankPoint};
 ghost use Rattle.grid.specs.Simulator.{blankStation};
 ghost use lib.ListN.{getD};
-ghost use Rattle.power_flow.specs.Balance.{of};
-ghost use Rattle.power_flow.specs.Solution.{isLcc, operatingPoint, converterPoint, cut, cableLoss, cableLosses};
-use crate::conductances::cable_resistance;
+ghost use Rattle.power_flow.specs.Solution.{isLcc, operatingPoint, converterPoint, cableLoss, cableLosses};
 use converter::ConverterOperatingPoint;
 use converter::lcc_point;
 use converter::no_point;
@@ -18,6 +16,8 @@ use float64::abs;
 use grid::ConverterStation;
 use grid::ConverterTopology;
 use grid::DcCable;
+use grid::cable_resistance;
+use grid::cut_end;
 
 // The points of all stations, and a total with their losses.
 pub struct Points {
@@ -124,15 +124,6 @@ fn cable_loss(c: DcCable, v: &[f64; 32], n: usize) -> f64
     let r = cable_resistance(c);
     let i = (v[from] - v[to]) / r;
     abs(i * i * r)
-}
-
-fn cut_end(station: u64, n: usize) -> usize
-    requires { ⌜ 0 < n ⌝ }
-    ensures { λ r. ⌜ r ≡ cut n station ⌝ }
-{
-    let last = n - 1;
-    let k = station as usize;
-    if k < last { k } else { last }
 }
 
 pub fn sum_losses(losses: &[f64; 64], n_cables: usize) -> f64

@@ -1,7 +1,6 @@
 -- `add_column` meets its contract. Assumes nothing.
-use Rattle.power_flow.specs.Balance.{of}
 use Rattle.power_flow.specs.Conductances.{cell}
-use Rattle.float64.specs.Arithmetic.{_⊕_, _⊗_}
+use Rattle.float64.specs.Arithmetic.{_⊕_, _⊗_, of}
 use lib.Ieee.{nan}
 use native.Mathlib.Omega.{arith}
 use mathlib.Core.Path.{_≡_, _∙_}

@@ -1,7 +1,7 @@
 -- `power_mismatches` meets its contract. Assumes nothing.
 use Rattle.power_flow.proofs.Turns.{later}
-use Rattle.power_flow.specs.Balance.{of, butFirst}
-use Rattle.float64.specs.Arithmetic.{_⊖_, _⊗_}
+use Rattle.power_flow.specs.Balance.{butFirst}
+use Rattle.float64.specs.Arithmetic.{_⊖_, _⊗_, of}
 use Rattle.float64.specs.Constants.{nought}
 use lib.Dec.{eqb}
 use mathlib.Core.Bool.{cond}

@@ -1,12 +1,11 @@
 -- `operating_points` meets its contract. Assumes nothing.
 use Rattle.converter.specs.declared.answer.ConverterOperatingPoint.{ConverterOperatingPoint}
 use Rattle.grid.specs.declared.parts.ConverterStation.{ConverterStation}
-use Rattle.power_flow.proofs.Turns.{added-more}
+use Rattle.float64.proofs.Sums.{added-more}
 use Rattle.power_flow.specs.Solution.{operatingPoint}
 use Rattle.converter.specs.Answer.{blankPoint}
 use Rattle.grid.specs.Simulator.{blankStation}
-use Rattle.power_flow.specs.Balance.{of}
-use Rattle.float64.specs.Arithmetic.{addedUp}
+use Rattle.float64.specs.Arithmetic.{addedUp, of}
 use lib.ListN.{length, getD}
 use native.Mathlib.Omega.{arith}
 use mathlib.Core.Path.{_≡_, refl, ap, _∙_}

@@ -1,7 +1,6 @@
 -- `sum_losses` meets its contract. Assumes nothing.
-use Rattle.power_flow.proofs.Turns.{added-more}
-use Rattle.power_flow.specs.Balance.{of}
-use Rattle.float64.specs.Arithmetic.{sumOf}
+use Rattle.float64.proofs.Sums.{added-more}
+use Rattle.float64.specs.Arithmetic.{sumOf, of}
 use Rattle.float64.specs.Constants.{nought}
 use native.Mathlib.Omega.{arith}
 use mathlib.Core.Path.{_≡_, refl}

@@ -2,9 +2,8 @@
 use mathlib.Core.Logic.{⊎-elim}
 use Rattle.power_flow.specs.Voltages.{sumWithout}
 use Rattle.power_flow.proofs.Turns.{without-more}
-use Rattle.power_flow.specs.Balance.{of}
 use Rattle.power_flow.specs.Conductances.{cell}
-use Rattle.float64.specs.Arithmetic.{_⊗_}
+use Rattle.float64.specs.Arithmetic.{_⊗_, of}
 use native.Mathlib.Omega.{arith}
 use mathlib.Core.Path.{_≡_, refl}
 use Prim.Native.Nat.{_-_, _≤_}

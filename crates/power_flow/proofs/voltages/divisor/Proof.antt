@@ -2,9 +2,8 @@
 use mathlib.Core.Logic.{inl, inr}
 use Rattle.power_flow.specs.Voltages.{divisor}
 use Rattle.power_flow.proofs.Turns.{without-self}
-use Rattle.power_flow.specs.Balance.{of}
 use Rattle.power_flow.specs.Conductances.{cell}
-use Rattle.float64.specs.Arithmetic.{_⊗_}
+use Rattle.float64.specs.Arithmetic.{_⊗_, of}
 use native.Mathlib.Omega.{arith}
 use mathlib.Core.Path.{refl, _∙_}
 use borrow.Author.Needs.{needs}
