@@ -1,0 +1,63 @@
+-- What document 01 says of the fault's current in words, and what a reader expects beside the definitions. The proofs are in proofs/Claims.antt.
+use Prim.Native.Nat.{ℕ, _<_, _≤_}
+use mathlib.Core.Path.{_≡_}
+use mathlib.Core.Bool.{Bool, true, _&&_}
+use lib.IntN.{pos}
+use lib.Ieee.{Float, binary64, ofInt, le}
+use Rattle.lists.specs.Scans.{every}
+use Rattle.float64.specs.Constants.{nought, one}
+use Rattle.float64.specs.Arithmetic.{_⊗_}
+use Rattle.float64.specs.Exponential.{E}
+use Rattle.grid.specs.Ranges as range
+use Rattle.grid.specs.Ranges.{ends, realIn}
+use Rattle.grid.specs.Simulator.{stationsOf, cablesOf}
+use Rattle.grid.specs.declared.parts.DcFaultEvent.{DcFaultEvent}
+use Rattle.grid.specs.declared.simulator.DcSwitchingSimulator.{DcSwitchingSimulator}
+use Rattle.timing.specs.Steps.{timeStepMs, stepsOf}
+use Rattle.rules.specs.PartChecks.{stationOk, cableOk}
+use Rattle.rules.specs.Studies.{faultRefusal}
+use Rattle.fault_circuit.specs.Parameters.{parametersOf}
+use Rattle.fault_circuit.specs.Circuit.{circuitOf}
+use Rattle.fault_circuit.specs.Current.{currentOf, exponents, rlcCurrent}
+
+-- what is worked out once for a run changes no current
+pub record CurrentClaims : Type 0 where
+  pub worked-out-once : (g : DcSwitchingSimulator) (f : DcFaultEvent) (t : Float) → currentOf (circuitOf g f) t ≡ rlcCurrent (parametersOf g f) (f .«fault_type») (f .«inception_time_ms») t
+
+-- a time in milliseconds, from 0 to 1,000,000,000
+abbrev pub isTime : Float → Bool
+isTime t = realIn (ends 0 1000000000) t
+
+-- the time of a step
+abbrev pub timeOfStep : DcSwitchingSimulator → ℕ → Float
+timeOfStep g k = ofInt binary64 (pos k) ⊗ timeStepMs g
+
+-- "t is never positive", of each argument of E
+abbrev pub neverPositive : Float → Bool
+neverPositive x = le x nought
+
+-- "and 0 ≤ E ≤ 1"
+abbrev pub inUnit : Float → Bool
+inUnit x = le nought (E x) && le (E x) one
+
+-- What of acceptance the circuit rests on. The faults of an accepted sweep have it too.
+pub record Sound (g : DcSwitchingSimulator) (f : DcFaultEvent) : Type 0 where
+  pub some-station : 0 < g .«n_stations»
+  pub stations : g .«n_stations» ≤ 32
+  pub some-cable : 0 < g .«n_cables»
+  pub cables : g .«n_cables» ≤ 64
+  pub stations-ok : every stationOk (stationsOf g) ≡ true
+  pub cables-ok : every cableOk (cablesOf g) ≡ true
+  pub fraction : realIn range.faultFraction (f .«location_fraction») ≡ true
+  pub inception : realIn range.inceptionTime (f .«inception_time_ms») ≡ true
+
+pub record ExponentClaims : Type 0 where
+  pub sound : (g : DcSwitchingSimulator) (f : DcFaultEvent) → faultRefusal g f ≡ 0 → Sound g f
+  -- "For accepted input t is never positive, and 0 ≤ E ≤ 1": at any time, also where the fault was cleared at any time
+  pub never-positive : (g : DcSwitchingSimulator) (f : DcFaultEvent) → Sound g f → (clearing t : Float) → isTime clearing ≡ true → isTime t ≡ true → every neverPositive (exponents (circuitOf g f) clearing t) ≡ true
+  pub in-unit : (g : DcSwitchingSimulator) (f : DcFaultEvent) → Sound g f → (clearing t : Float) → isTime clearing ≡ true → isTime t ≡ true → every inUnit (exponents (circuitOf g f) clearing t) ≡ true
+  -- the times of a run's steps are such times
+  pub step-time : (g : DcSwitchingSimulator) (f : DcFaultEvent) → faultRefusal g f ≡ 0 → (k : ℕ) → k < stepsOf g → isTime (timeOfStep g k) ≡ true
+  -- so at every step of an accepted run, the fault cleared at any step
+  pub at-steps : (g : DcSwitchingSimulator) (f : DcFaultEvent) → faultRefusal g f ≡ 0 → (j k : ℕ) → j < stepsOf g → k < stepsOf g → every neverPositive (exponents (circuitOf g f) (timeOfStep g j) (timeOfStep g k)) ≡ true
+  pub unit-at-steps : (g : DcSwitchingSimulator) (f : DcFaultEvent) → faultRefusal g f ≡ 0 → (j k : ℕ) → j < stepsOf g → k < stepsOf g → every inUnit (exponents (circuitOf g f) (timeOfStep g j) (timeOfStep g k)) ≡ true

@@ -1,0 +1,81 @@
+-- The fault's current at a time. Definitions only.
+use mathlib.Core.Bool.{cond}
+use mathlib.Core.List.{List, [], _∷_}
+use lib.Ieee.{Float, lt, neg}
+use Rattle.float64.specs.Constants.{nought}
+use Rattle.float64.specs.Arithmetic.{_⊖_, _⊗_, _⊘_}
+use Rattle.float64.specs.Choice.{maxOf, absOf}
+use Rattle.float64.specs.Exponential.{E}
+use Rattle.float64.specs.Wave.{S}
+use Rattle.grid.specs.declared.parts.DcFaultType.{DcFaultType}
+use Rattle.fault_circuit.specs.declared.parameters.RlcParameters.{RlcParameters}
+use Rattle.fault_circuit.specs.declared.circuit.Response.{Response}
+use Rattle.fault_circuit.specs.declared.circuit.Response.the-variants.{Underdamped, Overdamped, Critical, Still}
+use Rattle.fault_circuit.specs.declared.circuit.FaultCircuit.{FaultCircuit}
+use Rattle.fault_circuit.specs.Constants.{milli, kilo, pico, leastCurrent}
+use Rattle.fault_circuit.specs.Circuit.{volts, inductance, alpha, omega0Sq, underdamped, omegaD, s1, s2, resistanceFactor, typeFactor}
+
+-- seconds from a moment to t, both in milliseconds; 0 before the moment
+abbrev pub secondsSince : (moment t : Float) → Float
+secondsSince moment t = maxOf (t ⊖ moment) nought ⊗ milli
+
+-- ---- what is handed to E
+
+-- with damping alone, and along a root
+abbrev pub damping : (a t : Float) → Float
+damping a t = neg a ⊗ t
+
+abbrev pub along : (s t : Float) → Float
+along s t = s ⊗ t
+
+-- after clearing
+abbrev pub fading : FaultCircuit → (clearing t : Float) → Float
+fading c clearing t = neg (secondsSince clearing t) ⊘ c .«decay_tau_s»
+
+-- ---- the current
+
+-- in amperes, t seconds after inception
+unfoldable pub amperes : Response → Float → Float
+amperes (Underdamped gain a w) t = gain ⊗ E (damping a t) ⊗ S (w ⊗ t)
+amperes (Overdamped gain s s') t = gain ⊗ (E (along s t) ⊖ E (along s' t))
+amperes (Critical gain a) t = gain ⊗ t ⊗ E (damping a t)
+amperes Still t = nought
+
+-- in kA, while the fault lasts
+unfoldable pub currentOf : FaultCircuit → (t : Float) → Float
+currentOf c t = absOf (amperes (c .response) (secondsSince (c .«inception_time_ms») t)) ⊘ kilo ⊗ c .«resistance_factor» ⊗ c .«type_factor»
+
+-- and what is left of a current after clearing
+abbrev pub faded : FaultCircuit → (current clearing t : Float) → Float
+faded c current clearing t = current ⊗ E (fading c clearing t)
+
+unfoldable pub decayedOf : FaultCircuit → (current clearing t : Float) → Float
+decayedOf c current clearing t = cond (lt (faded c current clearing t) leastCurrent) nought (faded c current clearing t)
+
+-- ---- all that these two hand to E
+
+unfoldable pub duringFault : Response → Float → List Float
+duringFault (Underdamped gain a w) t = damping a t ∷ []
+duringFault (Overdamped gain s s') t = along s t ∷ along s' t ∷ []
+duringFault (Critical gain a) t = damping a t ∷ []
+duringFault Still t = []
+
+abbrev pub exponents : FaultCircuit → (clearing t : Float) → List Float
+exponents c clearing t = fading c clearing t ∷ duringFault (c .response) (secondsSince (c .«inception_time_ms») t)
+
+-- ---- 000's own formula, in which nothing is worked out beforehand
+
+abbrev pub rlcAmperes : RlcParameters → (t : Float) → Float
+rlcAmperes p t =
+    let a = alpha p in
+    let w = omega0Sq p in
+    cond (underdamped p)
+    (cond (lt pico (omegaD a w))
+    (volts p ⊘ (omegaD a w ⊗ inductance p) ⊗ E (neg a ⊗ t) ⊗ S (omegaD a w ⊗ t))
+    nought)
+    (cond (lt pico (absOf (s1 a w ⊖ s2 a w)))
+    (volts p ⊘ (inductance p ⊗ (s1 a w ⊖ s2 a w)) ⊗ (E (s1 a w ⊗ t) ⊖ E (s2 a w ⊗ t)))
+    (volts p ⊘ inductance p ⊗ t ⊗ E (neg a ⊗ t)))
+
+abbrev pub rlcCurrent : RlcParameters → DcFaultType → (inception t : Float) → Float
+rlcCurrent p type inception t = absOf (rlcAmperes p (maxOf (t ⊖ inception) nought ⊗ milli)) ⊘ kilo ⊗ resistanceFactor p ⊗ typeFactor type

@@ -1,0 +1,5 @@
+pub mod Constants
+pub mod Parameters
+pub mod Circuit
+pub mod Current
+pub mod Claims
