@@ -1,0 +1,29 @@
+-- `settling` meets its contract. Assumes nothing.
+use Rattle.fault_circuit.specs.Circuit.{settling}
+use borrow.Author.Needs.{needs}
+use Rattle.fault_circuit.proofs.circuit.settling.Statement.{statement}
+use Rattle.fault_circuit.proofs.circuit.settling.Tie as tie
+
+max-requires : tie.Need-max-requires
+max-requires c κs = search needs
+
+sqrt-requires : tie.Need-sqrt-requires
+sqrt-requires c κs = search needs
+
+abs-requires : tie.Need-abs-requires
+abs-requires c κs = search needs
+
+returns : tie.Need-returns
+unfolding settling
+returns c =
+    let s = c .before .before in
+    rw (← s .before .max .ensures, ← s .sqrt .ensures, ← c .before .abs .ensures, c .if1 .taken)
+
+returns-2 : tie.Need-returns-2
+unfolding settling
+returns-2 c =
+    let s = c .before .before in
+    rw (← s .before .max .ensures, ← s .sqrt .ensures, ← c .before .abs .ensures, c .if1 .left)
+
+pub settling-spec : {M : Type 1} → statement M
+settling-spec = tie.close (tie.spec max-requires sqrt-requires abs-requires returns returns-2)

@@ -1,0 +1,31 @@
+-- `type_factor` meets its contract. Assumes nothing.
+use Rattle.fault_circuit.specs.Circuit.{typeFactor}
+use mathlib.Core.Path.{sym, ap}
+use borrow.Author.Needs.{needs}
+use Rattle.fault_circuit.proofs.circuit.type_factor.Statement.{statement}
+use Rattle.fault_circuit.proofs.circuit.type_factor.Tie as tie
+
+enum-told : tie.Need-enum-told
+enum-told c = search needs
+
+enum-told-2 : tie.Need-enum-told-2
+enum-told-2 c = search needs
+
+enum-told-3 : tie.Need-enum-told-3
+enum-told-3 c = search needs
+
+returns : tie.Need-returns
+unfolding typeFactor
+returns c = ap typeFactor (sym (c .enum-told .given .1))
+
+returns-2 : tie.Need-returns-2
+unfolding typeFactor
+returns-2 c = ap typeFactor (sym (c .enum-told2 .given .1))
+
+returns-3 : tie.Need-returns-3
+unfolding typeFactor
+returns-3 c = ap typeFactor (sym (c .enum-told3 .given .1))
+
+pub type-factor-spec : {M : Type 1} → statement M
+type-factor-spec =
+    tie.close (tie.spec enum-told enum-told-2 enum-told-3 returns returns-2 returns-3)
