@@ -25,6 +25,14 @@ pub max-is : (a b : Float) → maxOf a b ≡ cond (ne a a) b (cond (lt a b) b a)
 unfolding maxOf
 max-is a b = needless (isNan a) (isNan b) (lt a b) a b (lt-nan a b) ∙ ap (λ (n : Bool). cond n b (cond (lt a b) b a)) (sym (ne-self a))
 
+either : (P : Float → Type 0) (t : Bool) (a b : Float) → P a → P b → P (cond t a b)
+either P true a b p q = p
+either P false a b p q = q
+
+-- what holds of both numbers holds of the larger, and what holds of all three of the clamped
+pub max-holds : (P : Float → Type 0) (a b : Float) → P a → P b → P (maxOf a b)
+max-holds P a b p q = rw (max-is a b) (either P (ne a a) b (cond (lt a b) b a) q (either P (lt a b) b a q p))
+
 pub min-is : (a b : Float) → minOf a b ≡ cond (ne a a) b (cond (lt b a) b a)
 unfolding minOf
 min-is a b = needless (isNan a) (isNan b) (lt b a) a b (nan-lt b a) ∙ ap (λ (n : Bool). cond n b (cond (lt b a) b a)) (sym (ne-self a))
@@ -34,6 +42,9 @@ unfolding clampOf isNan
 clamp-is nan low high = rw (nan-lt nan low tt, lt-nan high nan tt)
 clamp-is (inf s) low high = refl
 clamp-is (fin s m e) low high = refl
+
+pub clamp-holds : (P : Float → Type 0) (x low high : Float) → P x → P low → P high → P (clampOf x low high)
+clamp-holds P x low high p q r = rw (clamp-is x low high) (either P (lt high (cond (lt x low) low x)) high (cond (lt x low) low x) r (either P (lt x low) low x q p))
 
 fits-plus : (m : ℕ) (e : ℤ) → T (fits binary64 (fin true m e)) → T (fits binary64 (fin false m e))
 unfolding fits

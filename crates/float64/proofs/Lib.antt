@@ -22,3 +22,5 @@ pub mod Claims
 pub mod Tied
 mod Controls
 pub mod Sums
+pub mod Range
+pub mod Interval
