@@ -11,7 +11,8 @@ use lib.Ieee.{Float, nan, inf, fin, binary64, up, down, isNan, lt, le, eq, ne, n
 use lib.Ieee.Fits.{up-pos}
 use Rattle.float64.specs.Constants.{nought}
 use Rattle.float64.specs.Choice.{maxOf, minOf, absOf, clampOf}
-use Rattle.float64.proofs.Order.{lt-or-eq, of-LE}
+use Rattle.lists.proofs.Counting.{by-test}
+use Rattle.float64.proofs.Order.{lt-or-eq, of-LE, lt-not-le}
 use Rattle.float64.proofs.SameValue.{round-own}
 use Rattle.float64.proofs.Tests.{ne-self, lt-nan, nan-lt}
 
@@ -32,6 +33,26 @@ either P false a b p q = q
 -- what holds of both numbers holds of the larger, and what holds of all three of the clamped
 pub max-holds : (P : Float → Type 0) (a b : Float) → P a → P b → P (maxOf a b)
 max-holds P a b p q = rw (max-is a b) (either P (ne a a) b (cond (lt a b) b a) q (either P (lt a b) b a q p))
+
+no-le-nan : (x : Float) → T (le x nan) → ⊥
+unfolding le lt eq
+no-le-nan nan h = h
+no-le-nan (inf s) h = h
+no-le-nan (fin s m e) h = h
+
+-- the larger is the first where the second is no larger
+pub max-first : (a b : Float) → T (le b a) → maxOf a b ≡ a
+unfolding isNan
+max-first a b h =
+    max-is a b ∙ rw (ne-self a)
+    (by-test (isNan a)
+    (λ n. absurd (is-nan a h n))
+    (λ n. rw n (by-test (lt a b) (λ l. absurd (lt-not-le a b l h)) (λ l. rw l))))
+  where
+    is-nan : (a : Float) → T (le b a) → isNan a ≡ true → ⊥
+    is-nan nan h n = no-le-nan b h
+    is-nan (inf s) h n = true≢false (sym n)
+    is-nan (fin s m e) h n = true≢false (sym n)
 
 pub min-is : (a b : Float) → minOf a b ≡ cond (ne a a) b (cond (lt b a) b a)
 unfolding minOf

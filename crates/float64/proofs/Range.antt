@@ -1,6 +1,6 @@
 -- Doubles from 0 to a whole number k, zeros of both signs among them: what the operations make of them, and when a product or a quotient is never positive. Assumes nothing.
 use Prim.Native.Nat.{ℕ, zero, suc, _+_, _-_, _*_, _^_, _≤_, _<_}
-use native.Mathlib.Nat.{add-mul, mul-assoc, mul-comm, mul-one, zero-mul, mul-mul-mul-comm, mul-le-mul, mul-le-mul-right, mul-pos, le-trans, le-of-eq, zero-lt-suc, not-le-of-lt}
+use native.Mathlib.Nat.{add-mul, mul-assoc, mul-comm, mul-one, zero-mul, mul-mul-mul-comm, mul-le-mul, mul-le-mul-right, mul-pos, le-trans, le-of-eq, zero-lt-suc, suc-mul}
 use native.Mathlib.Omega.{arith}
 use mathlib.Core.Path.{_≡_, refl, sym, ap, _∙_, subst}
 use mathlib.Core.Logic.{_⊎_, inl, inr, ⊎-elim}
@@ -17,6 +17,7 @@ use lib.Ieee.Order.{round-mono, le-of-values}
 use lib.Ieee.Positive.{positive, num, den}
 use Rattle.lists.proofs.Counting.{by-test}
 use Rattle.float64.specs.Constants.{nought}
+use Rattle.float64.specs.Arithmetic.{sumOf}
 use Rattle.float64.specs.Choice.{maxOf}
 use Rattle.float64.proofs.Choosing.{max-is, max-holds}
 use Rattle.float64.proofs.Order.{of-LE, le-of-not-lt, le-trans-float}
@@ -366,3 +367,10 @@ more j k (fin false m e) y J p u v =
     (crossed' (v .m) (up (v .e)) (down e) k (down (v .e)) (v .most))
     (v .s) J
     (zero-times (v .m) (up (v .e)) (down e) (v .s) (v .sign)))
+
+-- ---- a sum of n numbers, each from 0 to k
+pub sum-up-to : (k : ℕ) (f : ℕ → Float) (n : ℕ) → n * k ≤ 2 ^ 53 → ((i : ℕ) → i < n → UpTo k (f i)) → UpTo (n * k) (sumOf f n)
+sum-up-to k f zero N h = nought-up-to (0 * k)
+sum-up-to k f (suc n) N h =
+    subst (λ (z : ℕ). UpTo z (sumOf f (suc n))) (sym (suc-mul n k))
+    (plus (n * k) k (sumOf f n) (f n) (let e = suc-mul n k in omega arith) (sum-up-to k f n (let e = suc-mul n k in omega arith) (λ i l. h i (omega arith))) (h n (omega arith)))
