@@ -98,7 +98,7 @@ module _ (k : ℕ) (K : k ≤ 2 ^ 53) where
   from-range (fin true m e) h l = let z = no-sign m e h in record { s = true; m = m; e = e; is = refl; sign = inr z; most = none-of m e k z }
 
   -- a fraction from 0 to k, rounded
-  rounded : (a b : ℕ) → 0 < b → a ≤ k * b → UpTo k (round binary64 false a b)
+  pub rounded : (a b : ℕ) → 0 < b → a ≤ k * b → UpTo k (round binary64 false a b)
   unfolding ofInt
   rounded a b p h = from-range (round binary64 false a b) (round-mono binary64 0 1 a b (omega arith) p (omega arith)) (round-mono binary64 a b k 1 p (omega arith) (omega arith))
 
@@ -119,6 +119,12 @@ zero-least : (s : Bool) (m : ℕ) (e : ℤ) → (s ≡ false) ⊎ (m ≡ 0) → 
 unfolding le lt eq ofInt round
 zero-least false m e o = of-LE false (0 * down e) false (m * up e * 1) (omega arith)
 zero-least true m e o = of-LE false (0 * down e) true (m * up e * 1) (let z : m * up e * 1 ≡ 0 = ap (λ (n : ℕ). n * up e * 1) (only o) ∙ ap (λ (n : ℕ). n * 1) (zero-mul (up e)) in (omega arith, omega arith))
+
+pub above-zero : (x : Float) → T (positive x) → T (le (ofInt binary64 (pos 0)) x)
+above-zero nan p = absurd p
+above-zero (inf s) p = absurd p
+above-zero (fin true m e) p = absurd p
+above-zero (fin false m e) p = zero-least false m e (inl refl)
 
 minus-below : (m : ℕ) (e : ℤ) → T (le (fin true m e) (ofInt binary64 (pos 0)))
 unfolding le lt eq ofInt round
@@ -218,7 +224,7 @@ over k d x (fin false (suc n) z) K p h u =
 
 -- ---- what is never positive
 
-zero-same : ofInt binary64 (pos 0) ≡ nought
+pub zero-same : ofInt binary64 (pos 0) ≡ nought
 unfolding ofInt round ofBits
 zero-same = refl
 
@@ -239,7 +245,7 @@ below-nought s a b B (inl e) =
     (minus-of (round binary64 false a b) (round-mono binary64 0 1 a b (omega arith) B (omega arith))))
 below-nought s a b B (inr e) = subst (λ (z : Float). T (le (round binary64 s a b) z)) zero-same (rw e (to-range 0 (omega arith) (round binary64 s 0 b) (rounded-zero s b 0 B) .1))
 
-neg-neg : (x : Float) → neg (neg x) ≡ x
+pub neg-neg : (x : Float) → neg (neg x) ≡ x
 unfolding neg
 neg-neg nan = refl
 neg-neg (inf true) = refl

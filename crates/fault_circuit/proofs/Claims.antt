@@ -1,0 +1,74 @@
+-- The claims of specs/Claims. Assumes nothing.
+use native.Mathlib.Omega.{arith}
+use mathlib.Core.Path.{_≡_, refl, sym, ap, subst}
+use mathlib.Core.Bool.{true}
+use lib.Dec.{T}
+use lib.Ieee.{Float, lt, le}
+use lib.Ieee.Bits.{is-true}
+use Rattle.lists.specs.Scans.{every}
+use Rattle.lists.proofs.Counting.{by-test}
+use Rattle.lists.proofs.Scanning.{both, every-of}
+use Rattle.float64.specs.Constants.{nought, one}
+use Rattle.float64.specs.Arithmetic.{_⊖_, _⊗_, _⊘_}
+use Rattle.float64.specs.Choice.{absOf}
+use Rattle.float64.specs.Exponential.{E}
+use Rattle.float64.proofs.ExpBound.{E-between}
+use Rattle.float64.proofs.Range.{UpTo, wider}
+use Rattle.grid.specs.declared.parts.DcFaultEvent.{DcFaultEvent}
+use Rattle.grid.specs.declared.simulator.DcSwitchingSimulator.{DcSwitchingSimulator}
+use Rattle.grid.proofs.InRange.{in-range}
+use Rattle.fault_circuit.specs.declared.parameters.RlcParameters.{RlcParameters}
+use Rattle.fault_circuit.specs.Constants.{kilo, pico}
+use Rattle.fault_circuit.specs.Parameters.{parametersOf}
+use Rattle.fault_circuit.specs.Circuit.{alpha, omega0Sq, underdamped, omegaD, s1, s2, swinging, settling, responseOf, resistanceFactor, typeFactor, circuitAt, circuitOf}
+use Rattle.fault_circuit.specs.Current.{secondsSince, amperes, currentOf, exponents, rlcAmperes}
+use Rattle.fault_circuit.specs.Claims.{CurrentClaims, isTime, neverPositive, inUnit, Sound, ExponentClaims}
+use Rattle.fault_circuit.proofs.Ranges.{ranged}
+use Rattle.fault_circuit.proofs.Accepted.{sound, step-time}
+use Rattle.fault_circuit.proofs.Exponents.{seconds, never-during, never-after}
+
+-- ---- worked out once
+
+same-amperes : (p : RlcParameters) (t : Float) → amperes (responseOf p) t ≡ rlcAmperes p t
+unfolding responseOf swinging settling amperes
+same-amperes p t =
+    by-test (underdamped p)
+    (λ o. rw o (by-test (lt pico (omegaD (alpha p) (omega0Sq p))) (λ l. rw l) (λ l. rw l)))
+    (λ o. rw o (by-test (lt pico (absOf (s1 (alpha p) (omega0Sq p) ⊖ s2 (alpha p) (omega0Sq p)))) (λ l. rw l) (λ l. rw l)))
+
+pub current-claims : CurrentClaims
+unfolding currentOf circuitAt
+current-claims =
+    record {
+      worked-out-once = λ g f t.
+      ap (λ (i : Float). absOf i ⊘ kilo ⊗ resistanceFactor (parametersOf g f) ⊗ typeFactor (f .«fault_type»)) (same-amperes (parametersOf g f) (secondsSince (f .«inception_time_ms») t));
+    }
+
+-- ---- never positive
+
+module _ (g : DcSwitchingSimulator) (f : DcFaultEvent) (h : Sound g f) (clearing t : Float) (C : isTime clearing ≡ true) (H : isTime t ≡ true) where
+  never : every neverPositive (exponents (circuitOf g f) clearing t) ≡ true
+  unfolding circuitAt
+  never =
+      let p = parametersOf g f in
+      let moment : (x : Float) → isTime x ≡ true → UpTo 1000000000 x = in-range 1000000000 (omega arith) in
+      let inception : UpTo 1000000000 (f .«inception_time_ms») = wider 100000 1000000000 _ (omega arith) (in-range 100000 (omega arith) _ (h .inception)) in
+      both _ _
+      (never-after p (ranged g f h) (secondsSince clearing t) (seconds clearing t (moment clearing C) (moment t H)))
+      (never-during p (ranged g f h) (secondsSince (f .«inception_time_ms») t) (seconds (f .«inception_time_ms») t inception (moment t H)))
+
+in-unit : (x : Float) → neverPositive x ≡ true → inUnit x ≡ true
+in-unit x h =
+    let b = E-between x (subst T (sym h) tt) in
+    both (le nought (E x)) (le (E x) one) (is-true (le nought (E x)) (b .0)) (is-true (le (E x) one) (b .1))
+
+pub exponent-claims : ExponentClaims
+exponent-claims =
+    record {
+      sound = sound;
+      never-positive = never;
+      in-unit = λ g f h c t C H. every-of neverPositive inUnit in-unit (exponents (circuitOf g f) c t) (never g f h c t C H);
+      step-time = step-time;
+      at-steps = λ g f h j k J K. never g f (sound g f h) _ _ (step-time g f h j J) (step-time g f h k K);
+      unit-at-steps = λ g f h j k J K. every-of neverPositive inUnit in-unit (exponents (circuitOf g f) _ _) (never g f (sound g f h) _ _ (step-time g f h j J) (step-time g f h k K));
+    }
