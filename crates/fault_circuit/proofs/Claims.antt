@@ -1,7 +1,9 @@
 -- The claims of specs/Claims. Assumes nothing.
+use Prim.Native.Nat.{ℕ, _<_}
 use native.Mathlib.Omega.{arith}
 use mathlib.Core.Path.{_≡_, refl, sym, ap, subst}
 use mathlib.Core.Bool.{true}
+use mathlib.Core.List.{List}
 use lib.Dec.{T}
 use lib.Ieee.{Float, lt, le}
 use lib.Ieee.Bits.{is-true}
@@ -17,32 +19,52 @@ use Rattle.float64.proofs.Range.{UpTo, wider}
 use Rattle.grid.specs.declared.parts.DcFaultEvent.{DcFaultEvent}
 use Rattle.grid.specs.declared.simulator.DcSwitchingSimulator.{DcSwitchingSimulator}
 use Rattle.grid.proofs.InRange.{in-range}
+use Rattle.timing.specs.Steps.{stepsOf}
+use Rattle.rules.specs.Studies.{faultRefusal}
 use Rattle.fault_circuit.specs.declared.parameters.RlcParameters.{RlcParameters}
+use Rattle.fault_circuit.specs.declared.circuit.Response.{Response}
+use Rattle.fault_circuit.specs.declared.circuit.Response.the-variants.{Underdamped, Overdamped, Critical, Still}
+use Rattle.fault_circuit.specs.declared.circuit.FaultCircuit.{FaultCircuit}
 use Rattle.fault_circuit.specs.Constants.{kilo, pico}
 use Rattle.fault_circuit.specs.Parameters.{parametersOf}
 use Rattle.fault_circuit.specs.Circuit.{alpha, omega0Sq, underdamped, omegaD, s1, s2, swinging, settling, responseOf, resistanceFactor, typeFactor, circuitAt, circuitOf}
-use Rattle.fault_circuit.specs.Current.{secondsSince, amperes, currentOf, exponents, rlcAmperes}
-use Rattle.fault_circuit.specs.Claims.{CurrentClaims, isTime, neverPositive, inUnit, Sound, ExponentClaims}
+use Rattle.fault_circuit.specs.Current.{secondsSince, amperesBy, amperes, currentBy, currentOf, decayedBy, decayedOf, duringFault, exponents, rlcAmperes}
+use Rattle.fault_circuit.specs.Claims.{CurrentClaims, OneOn, isTime, neverPositive, inUnit, timeOfStep, ExponentClaims, Sound, SoundClaims}
 use Rattle.fault_circuit.proofs.Ranges.{ranged}
-use Rattle.fault_circuit.proofs.Accepted.{sound, step-time}
+use Rattle.fault_circuit.proofs.Accepted.{of-fault, of-sweep, step-time}
 use Rattle.fault_circuit.proofs.Exponents.{seconds, never-during, never-after}
 
 -- ---- worked out once
 
 same-amperes : (p : RlcParameters) (t : Float) → amperes (responseOf p) t ≡ rlcAmperes p t
-unfolding responseOf swinging settling amperes
+unfolding responseOf swinging settling amperesBy
 same-amperes p t =
     by-test (underdamped p)
     (λ o. rw o (by-test (lt pico (omegaD (alpha p) (omega0Sq p))) (λ l. rw l) (λ l. rw l)))
     (λ o. rw o (by-test (lt pico (absOf (s1 (alpha p) (omega0Sq p) ⊖ s2 (alpha p) (omega0Sq p)))) (λ l. rw l) (λ l. rw l)))
 
 pub current-claims : CurrentClaims
-unfolding currentOf circuitAt
+unfolding currentBy circuitAt
 current-claims =
     record {
       worked-out-once = λ g f t.
       ap (λ (i : Float). absOf i ⊘ kilo ⊗ resistanceFactor (parametersOf g f) ⊗ typeFactor (f .«fault_type»)) (same-amperes (parametersOf g f) (secondsSince (f .«inception_time_ms») t));
     }
+
+-- ---- every argument of E
+
+same-by : (e : Float → Float) (r : Response) (t : Float) → OneOn e (duringFault r t) → amperesBy e r t ≡ amperes r t
+unfolding amperesBy duringFault
+same-by e (Underdamped gain a w) t h = rw (h .0)
+same-by e (Overdamped gain s s') t h = rw (h .0, h .1 .0)
+same-by e (Critical gain a) t h = rw (h .0)
+same-by e Still t h = refl
+
+only-these
+    : (e : Float → Float) (c : FaultCircuit) (current clearing t : Float) → OneOn e (exponents c clearing t)
+    → (currentBy e c t ≡ currentOf c t) × (decayedBy e c current clearing t ≡ decayedOf c current clearing t)
+unfolding currentBy decayedBy
+only-these e c current clearing t h = (rw (same-by e (c .response) (secondsSince (c .«inception_time_ms») t) (h .1)), rw (h .0))
 
 -- ---- never positive
 
@@ -62,13 +84,21 @@ in-unit x h =
     let b = E-between x (subst T (sym h) tt) in
     both (le nought (E x)) (le (E x) one) (is-true (le nought (E x)) (b .0)) (is-true (le (E x) one) (b .1))
 
+pub sound-claims : SoundClaims
+sound-claims = record { of-fault = of-fault; of-sweep = of-sweep; never-positive = never; step-time = step-time }
+
+at-steps : (g : DcSwitchingSimulator) (f : DcFaultEvent) → faultRefusal g f ≡ 0 → (j k : ℕ) → j < stepsOf g → k < stepsOf g → every neverPositive (exponents (circuitOf g f) (timeOfStep g j) (timeOfStep g k)) ≡ true
+at-steps g f h j k J K = let s = of-fault g f h in never g f s _ _ (step-time g f s j J) (step-time g f s k K)
+
+all-in-unit : (xs : List Float) → every neverPositive xs ≡ true → every inUnit xs ≡ true
+all-in-unit = every-of neverPositive inUnit in-unit
+
 pub exponent-claims : ExponentClaims
 exponent-claims =
     record {
-      sound = sound;
-      never-positive = never;
-      in-unit = λ g f h c t C H. every-of neverPositive inUnit in-unit (exponents (circuitOf g f) c t) (never g f h c t C H);
-      step-time = step-time;
-      at-steps = λ g f h j k J K. never g f (sound g f h) _ _ (step-time g f h j J) (step-time g f h k K);
-      unit-at-steps = λ g f h j k J K. every-of neverPositive inUnit in-unit (exponents (circuitOf g f) _ _) (never g f (sound g f h) _ _ (step-time g f h j J) (step-time g f h k K));
+      only-these = only-these;
+      never-positive = λ g f h. never g f (of-fault g f h);
+      in-unit = λ g f h c t C H. all-in-unit (exponents (circuitOf g f) c t) (never g f (of-fault g f h) c t C H);
+      at-steps = at-steps;
+      unit-at-steps = λ g f h j k J K. all-in-unit (exponents (circuitOf g f) _ _) (at-steps g f h j k J K);
     }

@@ -32,27 +32,37 @@ along s t = s ⊗ t
 abbrev pub fading : FaultCircuit → (clearing t : Float) → Float
 fading c clearing t = neg (secondsSince clearing t) ⊘ c .«decay_tau_s»
 
--- ---- the current
+-- ---- the current, with e for E
 
 -- in amperes, t seconds after inception
-unfoldable pub amperes : Response → Float → Float
-amperes (Underdamped gain a w) t = gain ⊗ E (damping a t) ⊗ S (w ⊗ t)
-amperes (Overdamped gain s s') t = gain ⊗ (E (along s t) ⊖ E (along s' t))
-amperes (Critical gain a) t = gain ⊗ t ⊗ E (damping a t)
-amperes Still t = nought
+unfoldable pub amperesBy : (e : Float → Float) → Response → Float → Float
+amperesBy e (Underdamped gain a w) t = gain ⊗ e (damping a t) ⊗ S (w ⊗ t)
+amperesBy e (Overdamped gain s s') t = gain ⊗ (e (along s t) ⊖ e (along s' t))
+amperesBy e (Critical gain a) t = gain ⊗ t ⊗ e (damping a t)
+amperesBy e Still t = nought
 
 -- in kA, while the fault lasts
-unfoldable pub currentOf : FaultCircuit → (t : Float) → Float
-currentOf c t = absOf (amperes (c .response) (secondsSince (c .«inception_time_ms») t)) ⊘ kilo ⊗ c .«resistance_factor» ⊗ c .«type_factor»
+unfoldable pub currentBy : (e : Float → Float) → FaultCircuit → (t : Float) → Float
+currentBy e c t = absOf (amperesBy e (c .response) (secondsSince (c .«inception_time_ms») t)) ⊘ kilo ⊗ c .«resistance_factor» ⊗ c .«type_factor»
 
 -- and what is left of a current after clearing
-abbrev pub faded : FaultCircuit → (current clearing t : Float) → Float
-faded c current clearing t = current ⊗ E (fading c clearing t)
+abbrev pub fadedBy : (e : Float → Float) → FaultCircuit → (current clearing t : Float) → Float
+fadedBy e c current clearing t = current ⊗ e (fading c clearing t)
 
-unfoldable pub decayedOf : FaultCircuit → (current clearing t : Float) → Float
-decayedOf c current clearing t = cond (lt (faded c current clearing t) leastCurrent) nought (faded c current clearing t)
+unfoldable pub decayedBy : (e : Float → Float) → FaultCircuit → (current clearing t : Float) → Float
+decayedBy e c current clearing t = cond (lt (fadedBy e c current clearing t) leastCurrent) nought (fadedBy e c current clearing t)
 
--- ---- all that these two hand to E
+-- `exp` is E
+abbrev pub amperes : Response → Float → Float
+amperes r t = amperesBy E r t
+
+abbrev pub currentOf : FaultCircuit → (t : Float) → Float
+currentOf c t = currentBy E c t
+
+abbrev pub decayedOf : FaultCircuit → (current clearing t : Float) → Float
+decayedOf c current clearing t = decayedBy E c current clearing t
+
+-- ---- all that they hand to e: `only-these` of Claims says so
 
 unfoldable pub duringFault : Response → Float → List Float
 duringFault (Underdamped gain a w) t = damping a t ∷ []

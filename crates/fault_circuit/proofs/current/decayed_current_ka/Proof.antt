@@ -1,5 +1,5 @@
 -- `decayed_current_ka` meets its contract. Assumes nothing.
-use Rattle.fault_circuit.specs.Current.{decayedOf}
+use Rattle.fault_circuit.specs.Current.{decayedBy}
 use borrow.Author.Needs.{needs}
 use Rattle.fault_circuit.proofs.current.decayed_current_ka.Statement.{statement}
 use Rattle.fault_circuit.proofs.current.decayed_current_ka.Tie as tie
@@ -11,11 +11,11 @@ exp-requires : tie.Need-exp-requires
 exp-requires c κs = search needs
 
 returns : tie.Need-returns
-unfolding decayedOf
+unfolding decayedBy
 returns c = rw (← c .before .before .before .seconds-since .ensures, ← c .before .exp .ensures, c .if1 .taken)
 
 returns-2 : tie.Need-returns-2
-unfolding decayedOf
+unfolding decayedBy
 returns-2 c = rw (← c .before .before .before .seconds-since .ensures, ← c .before .exp .ensures, c .if1 .left)
 
 pub decayed-current-ka-spec : {M : Type 1} → statement M

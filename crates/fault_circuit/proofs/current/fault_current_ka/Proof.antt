@@ -1,5 +1,5 @@
 -- `fault_current_ka` meets its contract. Assumes nothing.
-use Rattle.fault_circuit.specs.Current.{currentOf}
+use Rattle.fault_circuit.specs.Current.{currentBy}
 use borrow.Author.Needs.{needs}
 use Rattle.fault_circuit.proofs.current.fault_current_ka.Statement.{statement}
 use Rattle.fault_circuit.proofs.current.fault_current_ka.Tie as tie
@@ -14,7 +14,7 @@ abs-requires : tie.Need-abs-requires
 abs-requires c κs = search needs
 
 returns : tie.Need-returns
-unfolding currentOf
+unfolding currentBy
 returns c =
     let b = c .before .before in
     rw (b .abs .ensures, b .before .amperes .ensures, b .before .before .seconds-since .ensures)
