@@ -1,0 +1,98 @@
+-- Worked examples of the definitions: they are believed, so a wrong clause need break no other proof. The answers are the published Rust's, with E and S for its `exp` and `sin`.
+use mathlib.Core.Path.{_≡_, refl}
+use mathlib.Core.List.{List, [], _∷_}
+use Prim.Native.Nat.{ℕ, _^_}
+use lib.Ieee.{Float, binary64, ofBits, ofInt, round, neg, add, sub, mul, div, lt, isNan, size}
+use Rattle.float64.specs.Constants.{nought, one, decimal}
+use Rattle.float64.specs.Choice.{maxOf, absOf, clampOf}
+use Rattle.float64.specs.Root.{rootOf, floorRoot, nearestRoot}
+use Rattle.float64.specs.Exponential.{E, terms, squared}
+use Rattle.float64.specs.Wave.{S, series, reducedAngle, wholePart}
+use Rattle.grid.specs.declared.parts.ConverterTopology.the-variants.{Lcc}
+use Rattle.grid.specs.declared.parts.ConverterStation.{ConverterStation}
+use Rattle.grid.specs.declared.parts.DcCable.{DcCable}
+use Rattle.grid.specs.declared.parts.DcFaultType.{DcFaultType}
+use Rattle.grid.specs.declared.parts.DcFaultType.the-variants.{PoleToGround, PoleToPole, ConverterInternal}
+use Rattle.grid.specs.declared.parts.DcFaultEvent.{DcFaultEvent}
+use Rattle.grid.specs.declared.simulator.DcSwitchingSimulator.{DcSwitchingSimulator}
+use Rattle.fault_circuit.specs.declared.parameters.RlcParameters.{RlcParameters}
+use Rattle.fault_circuit.specs.declared.circuit.FaultCircuit.{FaultCircuit}
+use Rattle.fault_circuit.specs.declared.circuit.Response.{Response}
+use Rattle.fault_circuit.specs.declared.circuit.Response.the-variants.{Underdamped, Overdamped, Critical, Still}
+use Rattle.fault_circuit.specs.Parameters.{parametersAt}
+use Rattle.fault_circuit.specs.Circuit.{responseOf, swinging, settling, typeFactor, circuitAt, circuitOf}
+use Rattle.fault_circuit.specs.Current.{amperesBy, currentBy, currentOf, decayedBy, decayedOf}
+
+double : ℕ → Float
+double n = ofBits binary64 n
+
+-- 320 kV, with an arm's inductance in mH and a capacitance in tenths of 1 µF
+station : (arm capacitance : ℕ) → ConverterStation
+station arm capacitance =
+    record {
+      id = 0;
+      topology = Lcc;
+      «v_dc_rated_kv» = decimal 320 1;
+      «p_rated_mw» = nought;
+      «x_transformer_pu» = nought;
+      scr = nought;
+      «control_angle_deg» = nought;
+      «x_commutation_pu» = nought;
+      «arm_inductance_mh» = decimal arm 1;
+      «sm_capacitance_uf» = decimal capacitance 10;
+    }
+
+-- 100 km from the first station to the second, with hundredths of 1 Ω/km and of 1 mH/km, and tenths of 1 µF/km
+grid : List ConverterStation → (r l c : ℕ) → DcSwitchingSimulator
+grid stations r l c =
+    record {
+      stations = stations;
+      cables = record { id = 0; «from_station» = 0; «to_station» = 1; «r_per_km» = decimal r 100; «l_per_km» = decimal l 100; «c_per_km» = decimal c 10; «length_km» = decimal 100 1 } ∷ [];
+      breakers = [];
+      «n_stations» = 2;
+      «n_cables» = 1;
+      «n_breakers» = 0;
+      «dt_us» = nought;
+      «duration_ms» = nought;
+    }
+
+-- from 1 ms on. The cable's number is past the count.
+fault : DcFaultType → (tenths ohms : ℕ) → DcFaultEvent
+fault type tenths ohms = record { «fault_type» = type; «location_cable_id» = 7; «location_fraction» = decimal tenths 10; «fault_resistance» = decimal ohms 1; «inception_time_ms» = one }
+
+-- the currents at 1, 3 and 20 ms, and of the last, cleared then, what is left at 21 and 31 ms
+Runs : FaultCircuit → (at1 at3 at20 at21 at31 : ℕ) → Type 0
+Runs c at1 at3 at20 at21 at31 =
+    (currentOf c one ≡ double at1)
+    × (currentOf c (decimal 3 1) ≡ double at3)
+    × (currentOf c (decimal 20 1) ≡ double at20)
+    × (decayedOf c (double at20) (decimal 20 1) (decimal 21 1) ≡ double at21)
+    × (decayedOf c (double at20) (decimal 20 1) (decimal 31 1) ≡ double at31)
+
+swings : FaultCircuit
+swings = circuitOf (grid (station 50 100 ∷ station 7 105 ∷ []) 1 100 2) (fault PoleToGround 5 2)
+
+swings-are : (swings .response ≡ Underdamped (double 0x40b907ff06a90b47) (double 0x4003cd4e930288df) (double 0x407ee6e87c4faba0)) × Runs swings 0 0x3fe10bba53a095d3 0x3f9323401e86837a 0x3f930b0e82f2b5f2 0x3f921f97f7d83c0f
+unfolding swings Runs grid station fault double circuitAt parametersAt responseOf swinging settling typeFactor currentBy decayedBy amperesBy E terms squared S series reducedAngle wholePart rootOf floorRoot nearestRoot size clampOf maxOf absOf isNan lt ofBits ofInt round neg add sub mul div
+swings-are = (refl, (refl, refl, refl, refl, refl))
+
+-- the same with 1000 times the resistance, and all of the current gone after 11 ms
+settles : FaultCircuit
+settles = circuitOf (grid (station 50 100 ∷ station 7 105 ∷ []) 1000 100 2) (fault ConverterInternal 5 2)
+
+settles-are : (settles .response ≡ Overdamped (double 0x4084694f30763743) (double 0xc048f154e9e763c0) (double 0xc0b3249c11bcaae2)) × Runs settles 0 0x3fda60451afd0f93 0x3fc697a6cf38b6a0 0x3f54794e02ff3f83 0
+unfolding settles Runs grid station fault double circuitAt parametersAt responseOf swinging settling typeFactor currentBy decayedBy amperesBy E terms squared S series reducedAngle wholePart rootOf floorRoot nearestRoot size clampOf maxOf absOf isNan lt ofBits ofInt round neg add sub mul div
+settles-are = (refl, (refl, refl, refl, refl, refl))
+
+-- 1 H, 1 µF and 2000 Ω
+between : FaultCircuit
+between = circuitOf (grid (station 999 5 ∷ station 7 5 ∷ []) 2000 0 0) (fault PoleToPole 10 0)
+
+between-are : (between .response ≡ Critical (decimal 320000 1) (decimal 1000 1)) × Runs between 0 0x3fb62c5f89eae514 0x3e6249dbb7b1102e 0 0
+unfolding between Runs grid station fault double circuitAt parametersAt responseOf swinging settling typeFactor currentBy decayedBy amperesBy E terms squared S series reducedAngle wholePart rootOf floorRoot nearestRoot size clampOf maxOf absOf isNan lt ofBits ofInt round neg add sub mul div
+between-are = (refl, (refl, refl, refl, refl, refl))
+
+-- 10 ^ 12 H and 10 ^ 13 F, which no accepted grid has
+still-is : responseOf record { «l_total_mh» = decimal (10 ^ 15) 1; «c_total_uf» = decimal (10 ^ 19) 1; «r_total_ohm» = decimal 1 100; «r_fault_ohm» = nought; «v_dc_kv» = decimal 320 1 } ≡ Still
+unfolding responseOf swinging settling rootOf floorRoot nearestRoot size maxOf absOf isNan lt ofBits round neg add sub mul div
+still-is = refl
