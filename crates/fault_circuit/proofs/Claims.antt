@@ -48,7 +48,7 @@ unfolding currentBy circuitAt
 current-claims =
     record {
       worked-out-once = λ g f t.
-      ap (λ (i : Float). absOf i ⊘ kilo ⊗ resistanceFactor (parametersOf g f) ⊗ typeFactor (f .«fault_type»)) (same-amperes (parametersOf g f) (secondsSince (f .«inception_time_ms») t));
+          ap (λ (i : Float). absOf i ⊘ kilo ⊗ resistanceFactor (parametersOf g f) ⊗ typeFactor (f .«fault_type»)) (same-amperes (parametersOf g f) (secondsSince (f .«inception_time_ms») t));
     }
 
 -- ---- every argument of E

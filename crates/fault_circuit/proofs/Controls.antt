@@ -10,14 +10,11 @@ use Rattle.float64.specs.Exponential.{E, terms, squared}
 use Rattle.float64.specs.Wave.{S, series, reducedAngle, wholePart}
 use Rattle.grid.specs.declared.parts.ConverterTopology.the-variants.{Lcc}
 use Rattle.grid.specs.declared.parts.ConverterStation.{ConverterStation}
-use Rattle.grid.specs.declared.parts.DcCable.{DcCable}
 use Rattle.grid.specs.declared.parts.DcFaultType.{DcFaultType}
 use Rattle.grid.specs.declared.parts.DcFaultType.the-variants.{PoleToGround, PoleToPole, ConverterInternal}
 use Rattle.grid.specs.declared.parts.DcFaultEvent.{DcFaultEvent}
 use Rattle.grid.specs.declared.simulator.DcSwitchingSimulator.{DcSwitchingSimulator}
-use Rattle.fault_circuit.specs.declared.parameters.RlcParameters.{RlcParameters}
 use Rattle.fault_circuit.specs.declared.circuit.FaultCircuit.{FaultCircuit}
-use Rattle.fault_circuit.specs.declared.circuit.Response.{Response}
 use Rattle.fault_circuit.specs.declared.circuit.Response.the-variants.{Underdamped, Overdamped, Critical, Still}
 use Rattle.fault_circuit.specs.Parameters.{parametersAt}
 use Rattle.fault_circuit.specs.Circuit.{responseOf, swinging, settling, typeFactor, circuitAt, circuitOf}

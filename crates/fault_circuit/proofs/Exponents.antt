@@ -1,17 +1,16 @@
 -- All that is handed to E is never positive, of parameters in their ranges. Assumes nothing.
 use Prim.Native.Nat.{_^_}
 use native.Mathlib.Omega.{arith}
-use mathlib.Core.Path.{_≡_, refl}
-use mathlib.Core.Bool.{true, false, _&&_}
+use mathlib.Core.Path.{_≡_}
+use mathlib.Core.Bool.{true, false}
 use mathlib.Core.List.{[], _∷_}
-use lib.Dec.{T, lit≤}
+use lib.Dec.{T}
 use lib.Ieee.{Float, binary64, ofBits, ofInt, round, neg, lt, le, eq}
 use lib.Ieee.Bits.{is-true}
 use lib.Ieee.Fits.{div-fits}
 use Rattle.lists.specs.Scans.{every}
 use Rattle.lists.proofs.Counting.{by-test}
-use Rattle.lists.proofs.Scanning.{both}
-use Rattle.float64.specs.Constants.{nought, two}
+use Rattle.float64.specs.Constants.{nought}
 use Rattle.float64.specs.Arithmetic.{_⊖_, _⊗_, _⊘_}
 use Rattle.float64.specs.Choice.{maxOf, absOf}
 use Rattle.float64.proofs.Fields.{no-nan}
@@ -19,7 +18,7 @@ use Rattle.float64.proofs.Order.{le-of-not-lt}
 use Rattle.float64.proofs.Range.{UpTo, from-range, neg-neg, times, minus-raised, never-times, never-over}
 use Rattle.fault_circuit.specs.declared.parameters.RlcParameters.{RlcParameters}
 use Rattle.fault_circuit.specs.Constants.{milli, pico}
-use Rattle.fault_circuit.specs.Circuit.{inductance, alpha, omega0Sq, underdamped, omegaD, s1, s2, swinging, settling, responseOf, decayTau}
+use Rattle.fault_circuit.specs.Circuit.{alpha, omega0Sq, underdamped, omegaD, s1, s2, swinging, settling, responseOf, decayTau}
 use Rattle.fault_circuit.specs.Current.{secondsSince, damping, along, duringFault}
 use Rattle.fault_circuit.specs.Claims.{neverPositive}
 use Rattle.fault_circuit.proofs.Ranges.{Ranged}

@@ -4,7 +4,6 @@ use native.Mathlib.Omega.{arith}
 use mathlib.Core.Path.{_≡_, refl, sym, ap, _∙_}
 use mathlib.Core.Bool.{Bool, true, _&&_}
 use mathlib.Core.List.{List}
-use lib.Dec.{T}
 use lib.IntN.{pos}
 use lib.ListN.{getD, take}
 use lib.Seq.{getD-take}
@@ -12,13 +11,13 @@ use lib.Ieee.{Float, binary64, ofBits, ofInt, round, lt, le, eq, isNan, fits}
 use Rattle.lists.specs.Scans.{every}
 use Rattle.lists.proofs.Scanning.{left, right, passed, every-of}
 use Rattle.float64.specs.Constants.{nought, one}
-use Rattle.float64.specs.Arithmetic.{_⊕_, _⊗_}
+use Rattle.float64.specs.Arithmetic.{_⊕_}
 use Rattle.float64.proofs.Choosing.{clamp-holds}
 use Rattle.float64.proofs.Range.{UpTo, wider, from-range, to-range, times, plus, sum-up-to}
 use Rattle.float64.proofs.Interval.{In, max-in, le-plus}
 use Rattle.grid.specs.Ranges as range
 use Rattle.grid.specs.Ranges.{realIn}
-use Rattle.grid.specs.Simulator.{blankStation, blankCable, stationsOf, cablesOf}
+use Rattle.grid.specs.Simulator.{blankStation, blankCable, stationsOf}
 use Rattle.grid.specs.declared.parts.ConverterStation.{ConverterStation}
 use Rattle.grid.specs.declared.parts.DcCable.{DcCable}
 use Rattle.grid.specs.declared.parts.DcFaultEvent.{DcFaultEvent}
@@ -41,9 +40,9 @@ pub record Ranged (p : RlcParameters) : Type 0 where
 -- ---- what is accepted of a cable and of a station
 
 pub record CableRanged (c : DcCable) : Type 0 where
-  pub r : UpTo 1000 (c .«r_per_km»)
-  pub l : UpTo 1000 (c .«l_per_km»)
-  pub c' : UpTo 1000 (c .«c_per_km»)
+  pub resistance : UpTo 1000 (c .«r_per_km»)
+  pub inductance : UpTo 1000 (c .«l_per_km»)
+  pub capacitance : UpTo 1000 (c .«c_per_km»)
   pub length : UpTo 10000 (c .«length_km»)
 
 cable-ranged : (c : DcCable) → cableOk c ≡ true → CableRanged c
@@ -57,9 +56,9 @@ cable-ranged c h =
     let three = left (a && b && d) e four in
     let two = left (a && b) d three in
     record {
-      r = in-range 1000 (omega arith) (c .«r_per_km») (left a b two);
-      l = in-range 1000 (omega arith) (c .«l_per_km») (right a b two);
-      c' = in-range 1000 (omega arith) (c .«c_per_km») (right (a && b) d three);
+      resistance = in-range 1000 (omega arith) (c .«r_per_km») (left a b two);
+      inductance = in-range 1000 (omega arith) (c .«l_per_km») (right a b two);
+      capacitance = in-range 1000 (omega arith) (c .«c_per_km») (right (a && b) d three);
       length = in-range 10000 (omega arith) (c .«length_km») (right (a && b && d) e four);
     }
 
@@ -124,10 +123,10 @@ module _ (g : DcSwitchingSimulator) (f : DcFaultEvent) (h : Sound g f) where
   pub ranged : Ranged (parametersOf g f)
   unfolding parametersAt ofBits le lt eq ofInt round isNan fits
   ranged =
-      let r : UpTo 10000000 (cableResistance (faultedCable g f) f) = times 1000 10000 _ _ (omega arith) (cable .r) reached in
-      let l : UpTo 10001000 (cableInductance (faultedCable g f) f ⊕ feedingStation g f .«arm_inductance_mh») = plus 10000000 1000 _ _ (omega arith) (times 1000 10000 _ _ (omega arith) (cable .l) reached) arm in
+      let r : UpTo 10000000 (cableResistance (faultedCable g f) f) = times 1000 10000 _ _ (omega arith) (cable .resistance) reached in
+      let l : UpTo 10001000 (cableInductance (faultedCable g f) f ⊕ feedingStation g f .«arm_inductance_mh») = plus 10000000 1000 _ _ (omega arith) (times 1000 10000 _ _ (omega arith) (cable .inductance) reached) arm in
       let l' : UpTo 10001001 (cableInductance (faultedCable g f) f ⊕ feedingStation g f .«arm_inductance_mh» ⊕ smoothing) = plus 10001000 1 _ smoothing (omega arith) l (from-range 1 (omega arith) smoothing tt tt) in
-      let c : UpTo 13200000 (cableCapacitance (faultedCable g f) ⊕ stationsCapacitance g) = plus 10000000 3200000 _ _ (omega arith) (times 1000 10000 _ _ (omega arith) (cable .c') (cable .length)) sum in
+      let c : UpTo 13200000 (cableCapacitance (faultedCable g f) ⊕ stationsCapacitance g) = plus 10000000 3200000 _ _ (omega arith) (times 1000 10000 _ _ (omega arith) (cable .capacitance) (cable .length)) sum in
       record {
         resistance = max-in _ leastCableResistance (whole 10000000) tt (to-range 10000000 (omega arith) _ r .1) tt;
         inductance = record { from = le-plus 10001000 _ smoothing l tt tt; to = to-range 10001001 (omega arith) _ l' .1 };

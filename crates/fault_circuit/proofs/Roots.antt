@@ -4,25 +4,23 @@ use native.Mathlib.Nat.{zero-lt-suc, le-trans, mul-pos}
 use mathlib.Core.Logic.{inl}
 use lib.Pow.{pow-pos}
 use native.Mathlib.Omega.{arith}
-use mathlib.Core.Path.{_≡_, refl, sym, ap, _∙_, subst}
-use mathlib.Core.Bool.{Bool, true, false, not, true≢false}
+use mathlib.Core.Path.{_≡_, refl, subst}
+use mathlib.Core.Bool.{true, false, true≢false}
 use lib.Dec.{T, lt→ltb, lit≤}
-use lib.IntN.{ℤ, pos}
-use lib.Ieee.{Float, nan, inf, fin, binary64, up, down, low, ofBits, ofInt, round, neg, add, sub, mul, div, lt, le, eq, fits, isNan}
+use lib.Ieee.{Float, nan, inf, fin, binary64, low, ofBits, ofInt, round, neg, mul, div, lt, le, eq, fits, isNan}
 use lib.Ieee.Exact.{HasValue}
-use lib.Ieee.Fits.{mul-fits, sub-fits, div-fits}
+use lib.Ieee.Fits.{mul-fits, sub-fits}
 use lib.Ieee.Order.{round-mono}
 use lib.Ieee.Scale.{grid, finite, round-val, round-under}
 use lib.Ieee.Positive.{num, den, den-pos, positive, positive-finite, positive-of-value, le→cross}
 use Rattle.float64.specs.Constants.{nought, one, two}
-use Rattle.float64.specs.Arithmetic.{_⊕_, _⊖_, _⊗_, _⊘_}
-use Rattle.float64.specs.Choice.{maxOf}
+use Rattle.float64.specs.Arithmetic.{_⊖_, _⊗_, _⊘_}
 use Rattle.float64.specs.Root.{rootOf}
 use Rattle.float64.specs.Claims.{leastSquarable}
 use Rattle.float64.proofs.Choosing.{max-first, max-holds}
 use Rattle.float64.proofs.Order.{le-trans-float}
 use Rattle.float64.proofs.Range.{UpTo, from-range, above-zero, zero-same, less, more}
-use Rattle.float64.proofs.Interval.{In, in-positive, in-wide, in-self, max-in, mul-in, div-in, sub-is, sub-le-first}
+use Rattle.float64.proofs.Interval.{In, in-positive, in-wide, in-self, mul-in, div-in, sub-is, sub-le-first}
 use Rattle.float64.proofs.RootOfSquare.{root-le}
 use Rattle.float64.proofs.RootPlace.{rooted}
 use Rattle.fault_circuit.specs.declared.parameters.RlcParameters.{RlcParameters}

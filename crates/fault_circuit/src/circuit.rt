@@ -17,22 +17,11 @@ const LEAST: f64 = 0.000000001;
 // The current in amperes, t seconds after inception.
 pub enum Response {
     // gain * E(-alpha t) * S(omega_d t)
-    Underdamped {
-        gain: f64,
-        alpha: f64,
-        omega_d: f64,
-    },
+    Underdamped { gain: f64, alpha: f64, omega_d: f64 },
     // gain * (E(s1 t) - E(s2 t))
-    Overdamped {
-        gain: f64,
-        s1: f64,
-        s2: f64,
-    },
+    Overdamped { gain: f64, s1: f64, s2: f64 },
     // gain * t * E(-alpha t)
-    Critical {
-        gain: f64,
-        alpha: f64,
-    },
+    Critical { gain: f64, alpha: f64 },
     // none: underdamped, but too slow to swing
     Still,
 }
@@ -108,10 +97,7 @@ fn settling(v: f64, l: f64, alpha: f64, omega0_sq: f64) -> Response
             s2,
         };
     }
-    Response::Critical {
-        gain: v / l,
-        alpha,
-    }
+    Response::Critical { gain: v / l, alpha }
 }
 
 fn resistance_factor(p: RlcParameters) -> f64

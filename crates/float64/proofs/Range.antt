@@ -1,11 +1,11 @@
 -- Doubles from 0 to a whole number k, zeros of both signs among them: what the operations make of them, and when a product or a quotient is never positive. Assumes nothing.
 use Prim.Native.Nat.{ℕ, zero, suc, _+_, _-_, _*_, _^_, _≤_, _<_}
-use native.Mathlib.Nat.{add-mul, mul-assoc, mul-comm, mul-one, zero-mul, mul-mul-mul-comm, mul-le-mul, mul-le-mul-right, mul-pos, le-trans, le-of-eq, zero-lt-suc, suc-mul}
+use native.Mathlib.Nat.{add-mul, mul-assoc, mul-comm, zero-mul, mul-mul-mul-comm, mul-le-mul, mul-le-mul-right, mul-pos, le-trans, le-of-eq, zero-lt-suc, suc-mul}
 use native.Mathlib.Omega.{arith}
 use mathlib.Core.Path.{_≡_, refl, sym, ap, _∙_, subst}
 use mathlib.Core.Logic.{_⊎_, inl, inr, ⊎-elim}
-use mathlib.Core.Bool.{Bool, true, false, not, _&&_, cond, true≢false}
-use borrow.Author.Tests.{leb-true, le-leb, ltb-true, ltb-false, le-ltb}
+use mathlib.Core.Bool.{Bool, true, false, not, _&&_, true≢false}
+use borrow.Author.Tests.{leb-true, ltb-true, ltb-false, le-ltb}
 use lib.Dec.{T, eqb, ltb, eqb→eq, eqb·suc-zero}
 use lib.IntN.{ℤ, pos}
 use lib.Ieee.{Float, nan, inf, fin, binary64, unlike, up, down, ofBits, ofInt, round, neg, sum, add, sub, mul, div, lt, le, eq, ne, isNan}
