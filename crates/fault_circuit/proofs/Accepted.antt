@@ -26,7 +26,7 @@ use Rattle.rules.specs.Studies.{broken, timeOutside, stationOutside, cableOutsi
 use Rattle.rules.specs.Claims.{Sizes}
 use Rattle.rules.proofs.Claims.{refusal-claims, accepted-claims}
 use Rattle.rules.proofs.Sizes.{size-claims}
-use Rattle.fault_circuit.specs.Claims.{isTime, timeOfStep, Sound}
+use Rattle.fault_circuit.specs.Claims.{isTime, timeOfStep, InRanges}
 
 -- g is accepted where no rule of the order is broken; e says whether the event is outside its ranges
 module _ (g : DcSwitchingSimulator) (e : Bool) (h : every (λ j. not (broken g e j)) faultOrder ≡ true) where
@@ -43,11 +43,11 @@ module _ (g : DcSwitchingSimulator) (e : Bool) (h : every (λ j. not (broken g e
   unfolding broken
   event-ok = kept 8
 
-  sound
+  in-ranges
       : Sizes g → Steps (stepsOf g) → (f : DcFaultEvent) → realIn range.faultFraction (f .«location_fraction») ≡ true → realIn range.inceptionTime (f .«inception_time_ms») ≡ true
-      → Sound g f
+      → InRanges g f
   unfolding broken timeOutside stationOutside cableOutside
-  sound sizes steps f fraction inception =
+  in-ranges sizes steps f fraction inception =
       record {
         some-station = sizes .some-station;
         stations = sizes .stations;
@@ -61,7 +61,7 @@ module _ (g : DcSwitchingSimulator) (e : Bool) (h : every (λ j. not (broken g e
         inception = inception;
       }
 
-pub of-fault : (g : DcSwitchingSimulator) (f : DcFaultEvent) → faultRefusal g f ≡ 0 → Sound g f
+pub of-fault : (g : DcSwitchingSimulator) (f : DcFaultEvent) → faultRefusal g f ≡ 0 → InRanges g f
 unfolding faultOk
 of-fault g f h =
     let rules = refusal-claims .fault g f .accepted .0 h in
@@ -69,20 +69,20 @@ of-fault g f h =
     let fraction = realIn range.faultFraction (f .«location_fraction») in
     let inception = realIn range.inceptionTime (f .«inception_time_ms») in
     let three : (resistance && fraction && inception) ≡ true = left _ _ (not-false (faultOk f) (event-ok g (not (faultOk f)) rules)) in
-    sound g (not (faultOk f)) rules (size-claims .fault g f h) (accepted-claims .fault g f h) f
+    in-ranges g (not (faultOk f)) rules (size-claims .fault g f h) (accepted-claims .fault g f h) f
     (right resistance fraction (left (resistance && fraction) inception three))
     (right (resistance && fraction) inception three)
 
-pub of-sweep : (g : DcSwitchingSimulator) (o : SweepOrder) (f : DcFaultEvent) → sweepRefusal g o ≡ 0 → realIn range.faultFraction (f .«location_fraction») ≡ true → f .«inception_time_ms» ≡ o .«inception_time_ms» → Sound g f
+pub of-sweep : (g : DcSwitchingSimulator) (o : SweepOrder) (f : DcFaultEvent) → sweepRefusal g o ≡ 0 → realIn range.faultFraction (f .«location_fraction») ≡ true → f .«inception_time_ms» ≡ o .«inception_time_ms» → InRanges g f
 unfolding orderOk
 of-sweep g o f h fraction same =
     let rules = refusal-claims .sweep g o .accepted .0 h in
     let resistance = realIn range.faultResistance (o .«fault_resistance») in
     let inception = realIn range.inceptionTime (o .«inception_time_ms») in
     let two : (resistance && inception) ≡ true = left _ _ (left _ _ (left _ _ (not-false (orderOk o) (event-ok g (not (orderOk o)) rules)))) in
-    sound g (not (orderOk o)) rules (size-claims .sweep g o h) (accepted-claims .sweep g o h) f fraction (ap (realIn range.inceptionTime) same ∙ right resistance inception two)
+    in-ranges g (not (orderOk o)) rules (size-claims .sweep g o h) (accepted-claims .sweep g o h) f fraction (ap (realIn range.inceptionTime) same ∙ right resistance inception two)
 
-module _ (g : DcSwitchingSimulator) (f : DcFaultEvent) (h : Sound g f) where
+module _ (g : DcSwitchingSimulator) (f : DcFaultEvent) (h : InRanges g f) where
   step-ms : UpTo 1000 (timeStepMs g)
   unfolding ofBits ofInt round le lt eq
   step-ms =

@@ -27,9 +27,9 @@ use Rattle.fault_circuit.specs.declared.circuit.Response.the-variants.{U
 use Rattle.fault_circuit.specs.declared.circuit.FaultCircuit.{FaultCircuit}
 use Rattle.fault_circuit.specs.Constants.{kilo, pico}
 use Rattle.fault_circuit.specs.Parameters.{parametersOf}
-use Rattle.fault_circuit.specs.Circuit.{alpha, omega0Sq, underdamped, omegaD, s1, s2, swinging, settling, responseOf, resistanceFactor, typeFactor, circuitAt, circuitOf}
+use Rattle.fault_circuit.specs.Circuit.{alpha, omega0Sq, underdamped, omegaD, s1, s2, underdampedResponse, overdampedResponse, responseOf, resistanceFactor, typeFactor, circuitAt, circuitOf}
 use Rattle.fault_circuit.specs.Current.{secondsSince, amperesBy, amperes, currentBy, currentOf, decayedBy, decayedOf, duringFault, exponents, rlcAmperes}
-use Rattle.fault_circuit.specs.Claims.{CurrentClaims, OneOn, isTime, neverPositive, inUnit, timeOfStep, ExponentClaims, Sound, SoundClaims}
+use Rattle.fault_circuit.specs.Claims.{CurrentClaims, OneOn, isTime, neverPositive, inUnit, timeOfStep, ExponentClaims, InRanges, RangeClaims}
 use Rattle.fault_circuit.proofs.Ranges.{ranged}
 use Rattle.fault_circuit.proofs.Accepted.{of-fault, of-sweep, step-time}
 use Rattle.fault_circuit.proofs.Exponents.{seconds, never-during, never-after}
@@ -37,7 +37,7 @@ use Rattle.fault_circuit.proofs.Exponents.{seconds, never-during, never
 -- ---- worked out once
 
 same-amperes : (p : RlcParameters) (t : Float) → amperes (responseOf p) t ≡ rlcAmperes p t
-unfolding responseOf swinging settling amperesBy
+unfolding responseOf underdampedResponse overdampedResponse amperesBy
 same-amperes p t =
     by-test (underdamped p)
     (λ o. rw o (by-test (lt pico (omegaD (alpha p) (omega0Sq p))) (λ l. rw l) (λ l. rw l)))
@@ -68,7 +68,7 @@ only-these e c current clearing t h = (rw (same-by e (c .response) (secondsSince
 
 -- ---- never positive
 
-module _ (g : DcSwitchingSimulator) (f : DcFaultEvent) (h : Sound g f) (clearing t : Float) (C : isTime clearing ≡ true) (H : isTime t ≡ true) where
+module _ (g : DcSwitchingSimulator) (f : DcFaultEvent) (h : InRanges g f) (clearing t : Float) (C : isTime clearing ≡ true) (H : isTime t ≡ true) where
   never : every neverPositive (exponents (circuitOf g f) clearing t) ≡ true
   unfolding circuitAt
   never =
@@ -84,8 +84,8 @@ in-unit x h =
     let b = E-between x (subst T (sym h) tt) in
     both (le nought (E x)) (le (E x) one) (is-true (le nought (E x)) (b .0)) (is-true (le (E x) one) (b .1))
 
-pub sound-claims : SoundClaims
-sound-claims = record { of-fault = of-fault; of-sweep = of-sweep; never-positive = never; step-time = step-time }
+pub range-claims : RangeClaims
+range-claims = record { of-fault = of-fault; of-sweep = of-sweep; never-positive = never; step-time = step-time }
 
 at-steps : (g : DcSwitchingSimulator) (f : DcFaultEvent) → faultRefusal g f ≡ 0 → (j k : ℕ) → j < stepsOf g → k < stepsOf g → every neverPositive (exponents (circuitOf g f) (timeOfStep g j) (timeOfStep g k)) ≡ true
 at-steps g f h j k J K = let s = of-fault g f h in never g f s _ _ (step-time g f s j J) (step-time g f s k K)

@@ -17,7 +17,7 @@ use Rattle.grid.specs.declared.simulator.DcSwitchingSimulator.{DcSwitchingSimul
 use Rattle.fault_circuit.specs.declared.circuit.FaultCircuit.{FaultCircuit}
 use Rattle.fault_circuit.specs.declared.circuit.Response.the-variants.{Underdamped, Overdamped, Critical, Still}
 use Rattle.fault_circuit.specs.Parameters.{parametersAt}
-use Rattle.fault_circuit.specs.Circuit.{responseOf, swinging, settling, typeFactor, circuitAt, circuitOf}
+use Rattle.fault_circuit.specs.Circuit.{responseOf, underdampedResponse, overdampedResponse, typeFactor, circuitAt, circuitOf}
 use Rattle.fault_circuit.specs.Current.{amperesBy, currentBy, currentOf, decayedBy, decayedOf}
 
 double : ℕ → Float
@@ -66,30 +66,30 @@ Runs c at1 at3 at20 at21 at31 =
     × (decayedOf c (double at20) (decimal 20 1) (decimal 21 1) ≡ double at21)
     × (decayedOf c (double at20) (decimal 20 1) (decimal 31 1) ≡ double at31)
 
-swings : FaultCircuit
-swings = circuitOf (grid (station 50 100 ∷ station 7 105 ∷ []) 1 100 2) (fault PoleToGround 5 2)
+under : FaultCircuit
+under = circuitOf (grid (station 50 100 ∷ station 7 105 ∷ []) 1 100 2) (fault PoleToGround 5 2)
 
-swings-are : (swings .response ≡ Underdamped (double 0x40b907ff06a90b47) (double 0x4003cd4e930288df) (double 0x407ee6e87c4faba0)) × Runs swings 0 0x3fe10bba53a095d3 0x3f9323401e86837a 0x3f930b0e82f2b5f2 0x3f921f97f7d83c0f
-unfolding swings Runs grid station fault double circuitAt parametersAt responseOf swinging settling typeFactor currentBy decayedBy amperesBy E terms squared S series reducedAngle wholePart rootOf floorRoot nearestRoot size clampOf maxOf absOf isNan lt ofBits ofInt round neg add sub mul div
-swings-are = (refl, (refl, refl, refl, refl, refl))
+under-is : (under .response ≡ Underdamped (double 0x40b907ff06a90b47) (double 0x4003cd4e930288df) (double 0x407ee6e87c4faba0)) × Runs under 0 0x3fe10bba53a095d3 0x3f9323401e86837a 0x3f930b0e82f2b5f2 0x3f921f97f7d83c0f
+unfolding under Runs grid station fault double circuitAt parametersAt responseOf underdampedResponse overdampedResponse typeFactor currentBy decayedBy amperesBy E terms squared S series reducedAngle wholePart rootOf floorRoot nearestRoot size clampOf maxOf absOf isNan lt ofBits ofInt round neg add sub mul div
+under-is = (refl, (refl, refl, refl, refl, refl))
 
 -- the same with 1000 times the resistance, and all of the current gone after 11 ms
-settles : FaultCircuit
-settles = circuitOf (grid (station 50 100 ∷ station 7 105 ∷ []) 1000 100 2) (fault ConverterInternal 5 2)
+over : FaultCircuit
+over = circuitOf (grid (station 50 100 ∷ station 7 105 ∷ []) 1000 100 2) (fault ConverterInternal 5 2)
 
-settles-are : (settles .response ≡ Overdamped (double 0x4084694f30763743) (double 0xc048f154e9e763c0) (double 0xc0b3249c11bcaae2)) × Runs settles 0 0x3fda60451afd0f93 0x3fc697a6cf38b6a0 0x3f54794e02ff3f83 0
-unfolding settles Runs grid station fault double circuitAt parametersAt responseOf swinging settling typeFactor currentBy decayedBy amperesBy E terms squared S series reducedAngle wholePart rootOf floorRoot nearestRoot size clampOf maxOf absOf isNan lt ofBits ofInt round neg add sub mul div
-settles-are = (refl, (refl, refl, refl, refl, refl))
+over-is : (over .response ≡ Overdamped (double 0x4084694f30763743) (double 0xc048f154e9e763c0) (double 0xc0b3249c11bcaae2)) × Runs over 0 0x3fda60451afd0f93 0x3fc697a6cf38b6a0 0x3f54794e02ff3f83 0
+unfolding over Runs grid station fault double circuitAt parametersAt responseOf underdampedResponse overdampedResponse typeFactor currentBy decayedBy amperesBy E terms squared S series reducedAngle wholePart rootOf floorRoot nearestRoot size clampOf maxOf absOf isNan lt ofBits ofInt round neg add sub mul div
+over-is = (refl, (refl, refl, refl, refl, refl))
 
 -- 1 H, 1 µF and 2000 Ω
-between : FaultCircuit
-between = circuitOf (grid (station 999 5 ∷ station 7 5 ∷ []) 2000 0 0) (fault PoleToPole 10 0)
+critical : FaultCircuit
+critical = circuitOf (grid (station 999 5 ∷ station 7 5 ∷ []) 2000 0 0) (fault PoleToPole 10 0)
 
-between-are : (between .response ≡ Critical (decimal 320000 1) (decimal 1000 1)) × Runs between 0 0x3fb62c5f89eae514 0x3e6249dbb7b1102e 0 0
-unfolding between Runs grid station fault double circuitAt parametersAt responseOf swinging settling typeFactor currentBy decayedBy amperesBy E terms squared S series reducedAngle wholePart rootOf floorRoot nearestRoot size clampOf maxOf absOf isNan lt ofBits ofInt round neg add sub mul div
-between-are = (refl, (refl, refl, refl, refl, refl))
+critical-is : (critical .response ≡ Critical (decimal 320000 1) (decimal 1000 1)) × Runs critical 0 0x3fb62c5f89eae514 0x3e6249dbb7b1102e 0 0
+unfolding critical Runs grid station fault double circuitAt parametersAt responseOf underdampedResponse overdampedResponse typeFactor currentBy decayedBy amperesBy E terms squared S series reducedAngle wholePart rootOf floorRoot nearestRoot size clampOf maxOf absOf isNan lt ofBits ofInt round neg add sub mul div
+critical-is = (refl, (refl, refl, refl, refl, refl))
 
 -- 10 ^ 12 H and 10 ^ 13 F, which no accepted grid has
 still-is : responseOf record { «l_total_mh» = decimal (10 ^ 15) 1; «c_total_uf» = decimal (10 ^ 19) 1; «r_total_ohm» = decimal 1 100; «r_fault_ohm» = nought; «v_dc_kv» = decimal 320 1 } ≡ Still
-unfolding responseOf swinging settling rootOf floorRoot nearestRoot size maxOf absOf isNan lt ofBits round neg add sub mul div
+unfolding responseOf underdampedResponse overdampedResponse rootOf floorRoot nearestRoot size maxOf absOf isNan lt ofBits round neg add sub mul div
 still-is = refl

@@ -18,7 +18,7 @@ use Rattle.float64.proofs.Order.{le-of-not-lt}
 use Rattle.float64.proofs.Range.{UpTo, from-range, neg-neg, times, minus-raised, never-times, never-over}
 use Rattle.fault_circuit.specs.declared.parameters.RlcParameters.{RlcParameters}
 use Rattle.fault_circuit.specs.Constants.{milli, pico}
-use Rattle.fault_circuit.specs.Circuit.{alpha, omega0Sq, underdamped, omegaD, s1, s2, swinging, settling, responseOf, decayTau}
+use Rattle.fault_circuit.specs.Circuit.{alpha, omega0Sq, underdamped, omegaD, s1, s2, underdampedResponse, overdampedResponse, responseOf, decayTau}
 use Rattle.fault_circuit.specs.Current.{secondsSince, damping, along, duringFault}
 use Rattle.fault_circuit.specs.Claims.{neverPositive}
 use Rattle.fault_circuit.proofs.Ranges.{Ranged}
@@ -52,7 +52,7 @@ module _ (p : RlcParameters) (P : Ranged p) (t : Float) (H : UpTo 1000000000 t) 
     second = never-times (2 ^ 34) 1000000000 (s2 (alpha p) (omega0Sq p)) t (s2-below (alpha p) (omega0Sq p) (alpha-in p P) (div-fits binary64 _ _) (omega0-positive p P) below-square) H
 
   pub never-during : every neverPositive (duringFault (responseOf p) t) ≡ true
-  unfolding responseOf swinging settling duringFault
+  unfolding responseOf underdampedResponse overdampedResponse duringFault
   never-during =
       by-test (underdamped p)
       (λ o. rw o (by-test (lt pico (omegaD (alpha p) (omega0Sq p))) (λ l. rw l (alone (damping (alpha p) t) damped)) (λ l. rw l)))

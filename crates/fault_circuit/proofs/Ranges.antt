@@ -27,7 +27,7 @@ use Rattle.rules.specs.PartChecks.{stationOk, cableOk}
 use Rattle.fault_circuit.specs.declared.parameters.RlcParameters.{RlcParameters}
 use Rattle.fault_circuit.specs.Constants.{smoothing, leastCapacitance, leastCableResistance}
 use Rattle.fault_circuit.specs.Parameters.{faultedCable, feedingStation, fraction, distance, cableResistance, cableInductance, cableCapacitance, stationsCapacitance, parametersAt, parametersOf}
-use Rattle.fault_circuit.specs.Claims.{Sound}
+use Rattle.fault_circuit.specs.Claims.{InRanges}
 
 abbrev pub whole : ℕ → Float
 whole k = ofInt binary64 (pos k)
@@ -96,7 +96,7 @@ blanks = (refl, refl, refl)
 among : {A : Type 0} (f : A → Bool) (d : A) (n : ℕ) (xs : List A) (k : ℕ) → f d ≡ true → every f (take n xs) ≡ true → k < n → f (getD xs k d) ≡ true
 among f d n xs k b h l = ap f (sym (getD-take n xs k d l)) ∙ passed f d (take n xs) k b h
 
-module _ (g : DcSwitchingSimulator) (f : DcFaultEvent) (h : Sound g f) where
+module _ (g : DcSwitchingSimulator) (f : DcFaultEvent) (h : InRanges g f) where
   cable : CableRanged (faultedCable g f)
   cable = cable-ranged (faultedCable g f) (among cableOk blankCable (g .«n_cables») (g .cables) _ (blanks .0) (h .cables-ok) (let a = h .some-cable in let b = h .cables in omega arith))
 

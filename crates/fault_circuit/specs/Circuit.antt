@@ -39,11 +39,11 @@ omega0Sq p = one ⊘ (inductance p ⊗ capacitance p)
 abbrev pub underdamped : RlcParameters → Bool
 underdamped p = lt (alpha p ⊗ alpha p) (omega0Sq p)
 
--- of a = alpha and w = omega0², where the circuit swings: √(w - a²)
+-- of a = alpha and w = omega0², underdamped: √(w - a²)
 abbrev pub omegaD : Float → Float → Float
 omegaD a w = rootOf (maxOf (w ⊖ a ⊗ a) nought)
 
--- where it does not: the roots -a ± √(a² - w)
+-- not underdamped: the roots -a ± √(a² - w)
 abbrev pub disc : Float → Float → Float
 disc a w = rootOf (maxOf (a ⊗ a ⊖ w) nought)
 
@@ -54,11 +54,11 @@ abbrev pub s2 : Float → Float → Float
 s2 a w = neg a ⊖ disc a w
 
 -- under v volts and l henries
-unfoldable pub swinging : (v l a w : Float) → Response
-swinging v l a w = cond (lt pico (omegaD a w)) (Underdamped (v ⊘ (omegaD a w ⊗ l)) a (omegaD a w)) Still
+unfoldable pub underdampedResponse : (v l a w : Float) → Response
+underdampedResponse v l a w = cond (lt pico (omegaD a w)) (Underdamped (v ⊘ (omegaD a w ⊗ l)) a (omegaD a w)) Still
 
-unfoldable pub settling : (v l a w : Float) → Response
-settling v l a w =
+unfoldable pub overdampedResponse : (v l a w : Float) → Response
+overdampedResponse v l a w =
     cond (lt pico (absOf (s1 a w ⊖ s2 a w)))
     (Overdamped (v ⊘ (l ⊗ (s1 a w ⊖ s2 a w))) (s1 a w) (s2 a w))
     (Critical (v ⊘ l) a)
@@ -66,8 +66,8 @@ settling v l a w =
 unfoldable pub responseOf : RlcParameters → Response
 responseOf p =
     cond (underdamped p)
-    (swinging (volts p) (inductance p) (alpha p) (omega0Sq p))
-    (settling (volts p) (inductance p) (alpha p) (omega0Sq p))
+    (underdampedResponse (volts p) (inductance p) (alpha p) (omega0Sq p))
+    (overdampedResponse (volts p) (inductance p) (alpha p) (omega0Sq p))
 
 abbrev pub resistanceFactor : RlcParameters → Float
 resistanceFactor p = one ⊘ (one ⊕ p .«r_fault_ohm» ⊘ (p .«r_total_ohm» ⊕ nano))

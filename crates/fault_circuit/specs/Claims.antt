@@ -61,7 +61,7 @@ pub record ExponentClaims : Type 0 where
   pub unit-at-steps : (g : DcSwitchingSimulator) (f : DcFaultEvent) → faultRefusal g f ≡ 0 → (j k : ℕ) → j < stepsOf g → k < stepsOf g → every inUnit (exponents (circuitOf g f) (timeOfStep g j) (timeOfStep g k)) ≡ true
 
 -- what of acceptance this rests on
-pub record Sound (g : DcSwitchingSimulator) (f : DcFaultEvent) : Type 0 where
+pub record InRanges (g : DcSwitchingSimulator) (f : DcFaultEvent) : Type 0 where
   pub some-station : 0 < g .«n_stations»
   pub stations : g .«n_stations» ≤ 32
   pub some-cable : 0 < g .«n_cables»
@@ -73,9 +73,9 @@ pub record Sound (g : DcSwitchingSimulator) (f : DcFaultEvent) : Type 0 where
   pub fraction : realIn range.faultFraction (f .«location_fraction») ≡ true
   pub inception : realIn range.inceptionTime (f .«inception_time_ms») ≡ true
 
-pub record SoundClaims : Type 0 where
-  pub of-fault : (g : DcSwitchingSimulator) (f : DcFaultEvent) → faultRefusal g f ≡ 0 → Sound g f
+pub record RangeClaims : Type 0 where
+  pub of-fault : (g : DcSwitchingSimulator) (f : DcFaultEvent) → faultRefusal g f ≡ 0 → InRanges g f
   -- the faults of an accepted sweep too
-  pub of-sweep : (g : DcSwitchingSimulator) (o : SweepOrder) (f : DcFaultEvent) → sweepRefusal g o ≡ 0 → realIn range.faultFraction (f .«location_fraction») ≡ true → f .«inception_time_ms» ≡ o .«inception_time_ms» → Sound g f
-  pub never-positive : (g : DcSwitchingSimulator) (f : DcFaultEvent) → Sound g f → (clearing t : Float) → isTime clearing ≡ true → isTime t ≡ true → every neverPositive (exponents (circuitOf g f) clearing t) ≡ true
-  pub step-time : (g : DcSwitchingSimulator) (f : DcFaultEvent) → Sound g f → (k : ℕ) → k < stepsOf g → isTime (timeOfStep g k) ≡ true
+  pub of-sweep : (g : DcSwitchingSimulator) (o : SweepOrder) (f : DcFaultEvent) → sweepRefusal g o ≡ 0 → realIn range.faultFraction (f .«location_fraction») ≡ true → f .«inception_time_ms» ≡ o .«inception_time_ms» → InRanges g f
+  pub never-positive : (g : DcSwitchingSimulator) (f : DcFaultEvent) → InRanges g f → (clearing t : Float) → isTime clearing ≡ true → isTime t ≡ true → every neverPositive (exponents (circuitOf g f) clearing t) ≡ true
+  pub step-time : (g : DcSwitchingSimulator) (f : DcFaultEvent) → InRanges g f → (k : ℕ) → k < stepsOf g → isTime (timeOfStep g k) ≡ true

@@ -20,7 +20,7 @@ kilo = ofBits binary64 0x408f_4000_0000_0000
 abbrev pub nano : Float
 nano = ofBits binary64 0x3e11_2e0b_e826_d695
 
--- what a capacitance is raised to where it divides, and the frequency and the distance of roots up to which there are none
+-- what a capacitance is raised to where it divides; up to it a frequency, and the distance of two roots, counts as none
 abbrev pub pico : Float
 pico = ofBits binary64 0x3d71_9799_812d_ea11
 

@@ -1,7 +1,7 @@
 // The circuit's response, with what does not depend on the time worked out once.
 ghost use mathlib.Core.Path.{_≡_};
 ghost use Rattle.fault_circuit.specs.Circuit as specs;
-ghost use Rattle.fault_circuit.specs.Circuit.{responseOf, swinging, settling, resistanceFactor, typeFactor, decayTau, circuitOf};
+ghost use Rattle.fault_circuit.specs.Circuit.{responseOf, underdampedResponse, overdampedResponse, resistanceFactor, typeFactor, decayTau, circuitOf};
 use crate::parameters::RlcParameters;
 use crate::parameters::fault_rlc_params;
 use float64::abs;
@@ -22,7 +22,7 @@ pub enum Response {
     Overdamped { gain: f64, s1: f64, s2: f64 },
     // gain * t * E(-alpha t)
     Critical { gain: f64, alpha: f64 },
-    // none: underdamped, but too slow to swing
+    // 0: underdamped, and omega_d is not above 1e-12
     Still,
 }
 
@@ -64,13 +64,13 @@ fn response_of(p: RlcParameters) -> Response
     let alpha = p.r_total_ohm / (2.0 * l);
     let omega0_sq = 1.0 / (l * c);
     if alpha * alpha < omega0_sq {
-        return swinging(v, l, alpha, omega0_sq);
+        return underdamped_response(v, l, alpha, omega0_sq);
     }
-    settling(v, l, alpha, omega0_sq)
+    overdamped_response(v, l, alpha, omega0_sq)
 }
 
-fn swinging(v: f64, l: f64, alpha: f64, omega0_sq: f64) -> Response
-    ensures { λ r. ⌜ r ≡ specs.swinging v l alpha «omega0_sq» ⌝ }
+fn underdamped_response(v: f64, l: f64, alpha: f64, omega0_sq: f64) -> Response
+    ensures { λ r. ⌜ r ≡ specs.underdampedResponse v l alpha «omega0_sq» ⌝ }
 {
     let omega_d = sqrt(max(omega0_sq - alpha * alpha, 0.0));
     if omega_d > 0.000000000001 {
@@ -84,8 +84,8 @@ fn swinging(v: f64, l: f64, alpha: f64, omega0_sq: f64) -> Response
 }
 
 // Two roots, or one where they are too near to each other to divide by their distance.
-fn settling(v: f64, l: f64, alpha: f64, omega0_sq: f64) -> Response
-    ensures { λ r. ⌜ r ≡ specs.settling v l alpha «omega0_sq» ⌝ }
+fn overdamped_response(v: f64, l: f64, alpha: f64, omega0_sq: f64) -> Response
+    ensures { λ r. ⌜ r ≡ specs.overdampedResponse v l alpha «omega0_sq» ⌝ }
 {
     let disc = sqrt(max(alpha * alpha - omega0_sq, 0.0));
     let s1 = -alpha + disc;

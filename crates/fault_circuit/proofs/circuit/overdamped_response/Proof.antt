@@ -1,8 +1,8 @@
--- `settling` meets its contract. Assumes nothing.
-use Rattle.fault_circuit.specs.Circuit.{settling}
+-- `overdamped_response` meets its contract. Assumes nothing.
+use Rattle.fault_circuit.specs.Circuit.{overdampedResponse}
 use borrow.Author.Needs.{needs}
-use Rattle.fault_circuit.proofs.circuit.settling.Statement.{statement}
-use Rattle.fault_circuit.proofs.circuit.settling.Tie as tie
+use Rattle.fault_circuit.proofs.circuit.overdamped_response.Statement.{statement}
+use Rattle.fault_circuit.proofs.circuit.overdamped_response.Tie as tie
 
 max-requires : tie.Need-max-requires
 max-requires c κs = search needs
@@ -14,16 +14,16 @@ abs-requires : tie.Need-abs-requires
 abs-requires c κs = search needs
 
 returns : tie.Need-returns
-unfolding settling
+unfolding overdampedResponse
 returns c =
     let s = c .before .before in
     rw (← s .before .max .ensures, ← s .sqrt .ensures, ← c .before .abs .ensures, c .if1 .taken)
 
 returns-2 : tie.Need-returns-2
-unfolding settling
+unfolding overdampedResponse
 returns-2 c =
     let s = c .before .before in
     rw (← s .before .max .ensures, ← s .sqrt .ensures, ← c .before .abs .ensures, c .if1 .left)
 
-pub settling-spec : {M : Type 1} → statement M
-settling-spec = tie.close (tie.spec max-requires sqrt-requires abs-requires returns returns-2)
+pub overdamped-response-spec : {M : Type 1} → statement M
+overdamped-response-spec = tie.close (tie.spec max-requires sqrt-requires abs-requires returns returns-2)
