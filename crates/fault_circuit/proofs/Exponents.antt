@@ -1,8 +1,8 @@
 -- All that is handed to E is never positive, of parameters in their ranges. Assumes nothing.
 use Prim.Native.Nat.{_^_}
 use native.Mathlib.Omega.{arith}
-use mathlib.Core.Path.{_≡_}
-use mathlib.Core.Bool.{true, false}
+use mathlib.Core.Path.{_≡_, refl}
+use mathlib.Core.Bool.{true, false, _&&_}
 use mathlib.Core.List.{[], _∷_}
 use lib.Dec.{T}
 use lib.Ieee.{Float, binary64, ofBits, ofInt, round, neg, lt, le, eq}
@@ -10,6 +10,7 @@ use lib.Ieee.Bits.{is-true}
 use lib.Ieee.Fits.{div-fits}
 use Rattle.lists.specs.Scans.{every}
 use Rattle.lists.proofs.Counting.{by-test}
+use Rattle.lists.proofs.Scanning.{both}
 use Rattle.float64.specs.Constants.{nought}
 use Rattle.float64.specs.Arithmetic.{_⊖_, _⊗_, _⊘_}
 use Rattle.float64.specs.Choice.{maxOf, absOf}
@@ -29,10 +30,10 @@ unfolding ofBits ofInt round le lt eq
 seconds moment t m h = times 1000000000 1 (maxOf (t ⊖ moment) nought) milli (omega arith) (minus-raised 1000000000 1000000000 t moment (omega arith) h m) (from-range 1 (omega arith) milli tt tt)
 
 alone : (x : Float) → T (le x nought) → every neverPositive (x ∷ []) ≡ true
-alone x h = rw (is-true (le x nought) h)
+alone x h = both (neverPositive x) true (is-true (le x nought) h) refl
 
 pair : (x y : Float) → T (le x nought) → T (le y nought) → every neverPositive (x ∷ y ∷ []) ≡ true
-pair x y h k = rw (is-true (le x nought) h, is-true (le y nought) k)
+pair x y h k = both (neverPositive x) (neverPositive y && true) (is-true (le x nought) h) (alone y k)
 
 module _ (p : RlcParameters) (P : Ranged p) (t : Float) (H : UpTo 1000000000 t) where
   a-range : UpTo (2 ^ 33) (alpha p)
