@@ -1,6 +1,6 @@
 -- Lists gone through from the front. Definitions only.
-use Prim.Native.Nat.{ℕ, suc}
-use mathlib.Core.Bool.{Bool, true, _&&_, cond}
+use Prim.Native.Nat.{ℕ, zero, suc}
+use mathlib.Core.Bool.{Bool, true, false, _&&_, _||_, cond}
 use mathlib.Core.List.{List, [], _∷_}
 
 module _ {A : Type 0} (f : A → Bool) where
@@ -13,3 +13,8 @@ module _ {A : Type 0} (f : A → Bool) where
   abbrev pub passing : List A → ℕ
   passing [] = 0
   passing (x ∷ xs) = cond (f x) (suc (passing xs)) 0
+
+-- f holds of one of 0, 1, .., n - 1
+abbrev pub some : ℕ → (ℕ → Bool) → Bool
+some zero f = false
+some (suc n) f = some n f || f n

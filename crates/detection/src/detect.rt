@@ -1,0 +1,103 @@
+// A fault shows in a current that changes fast, or in a voltage far below rated.
+ghost use mathlib.Core.Path.{_≡_};
+ghost use Prim.Native.Nat.{_≤_, _+_};
+ghost use Rattle.lists.specs.Scans.{some};
+ghost use Rattle.float64.specs.Arithmetic.{of};
+ghost use Rattle.rules.specs.Studies.{numberOf, detectionRefusal};
+ghost use Rattle.detection.specs.Detection.{timeBetween, fast, low, lowStation, detection};
+use float64::abs;
+use float64::max;
+use grid::ConverterStation;
+use grid::DcSwitchingSimulator;
+use rules::Verdict;
+use rules::check_detection;
+use rules::number;
+use transient::DcTransientState;
+
+// Nothing is detected where the grid is refused.
+pub struct DetectionAnswer {
+    pub verdict: Verdict,
+    pub detected: bool,
+}
+
+// DcSwitchingSimulator::detect_fault
+pub fn detect_fault(
+    g: DcSwitchingSimulator,
+    state: DcTransientState,
+    prev: DcTransientState,
+) -> DetectionAnswer
+    ensures { λ r. ⌜ (numberOf (r .verdict) ≡ detectionRefusal g) × (r .detected ≡ detection g state prev) ⌝ }
+{
+    let verdict = check_detection(g);
+    if number(verdict) == 0 {
+        let y = state.y;
+        let before = prev.y;
+        let stations = g.stations;
+        let dt_ms = time_between(state.time_ms, prev.time_ms);
+        let fast = some_current_fast(&y, &before, dt_ms, g.n_stations, g.n_cables);
+        let low = some_voltage_low(stations, &y, g.n_stations);
+        return DetectionAnswer {
+            verdict,
+            detected: fast | low,
+        };
+    }
+    DetectionAnswer {
+        verdict,
+        detected: false,
+    }
+}
+
+fn time_between(time_ms: f64, before_ms: f64) -> f64
+    ensures { λ r. ⌜ r ≡ timeBetween «time_ms» «before_ms» ⌝ }
+{
+    max(abs(time_ms - before_ms), 0.000000001)
+}
+
+fn some_current_fast(
+    y: &[f64; 96],
+    before: &[f64; 96],
+    dt_ms: f64,
+    n_stations: usize,
+    n_cables: usize,
+) -> bool
+    requires { ⌜ («n_stations» ≤ 32) × («n_cables» ≤ 64) ⌝ }
+    ensures { λ r. ⌜ r ≡ some «n_cables» (λ k. fast «dt_ms» (of (now (y .entry)) («n_stations» + k)) (of (now (before .entry)) («n_stations» + k))) ⌝ }
+{
+    let mut k = 0;
+    while k < n_cables {
+        if is_fast(dt_ms, y[n_stations + k], before[n_stations + k]) {
+            return true;
+        }
+        k += 1;
+    }
+    false
+}
+
+// More than 10 kA in a millisecond.
+fn is_fast(dt_ms: f64, current: f64, before: f64) -> bool
+    ensures { λ r. ⌜ r ≡ fast «dt_ms» current before ⌝ }
+{
+    abs(current - before) / dt_ms > 10.0
+}
+
+fn some_voltage_low(stations: [ConverterStation; 32], y: &[f64; 96], n_stations: usize) -> bool
+    requires { ⌜ «n_stations» ≤ 32 ⌝ }
+    ensures { λ r. ⌜ r ≡ some «n_stations» (lowStation stations (now (y .entry))) ⌝ }
+{
+    let mut i = 0;
+    while i < n_stations {
+        let s = stations[i];
+        if is_low(y[i], s.v_dc_rated_kv) {
+            return true;
+        }
+        i += 1;
+    }
+    false
+}
+
+// Below 80 percent of rated.
+fn is_low(v: f64, rated: f64) -> bool
+    ensures { λ r. ⌜ r ≡ low v rated ⌝ }
+{
+    v < 0.8 * rated
+}

@@ -1,0 +1,5 @@
+// Whether a fault shows between two states of a grid.
+mod detect;
+
+pub use detect::DetectionAnswer;
+pub use detect::detect_fault;

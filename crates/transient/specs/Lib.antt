@@ -1,0 +1,5 @@
+pub mod Constants
+pub mod Capacitance
+pub mod Network
+pub mod Derivatives
+pub mod Rk4

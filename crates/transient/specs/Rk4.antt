@@ -1,0 +1,67 @@
+-- "Classical RK4, 1/6 (k1+2k2+2k3+k4). New voltages are at least 0." Definitions only.
+use Prim.Native.Nat.{ℕ, _+_}
+use mathlib.Core.Bool.{cond}
+use mathlib.Core.List.{List}
+use lib.Dec.{ltb}
+use lib.Ieee.{Float}
+use Rattle.lists.specs.Tables.{padded}
+use Rattle.float64.specs.Constants.{nought, two}
+use Rattle.float64.specs.Arithmetic.{_⊕_, _⊗_, _⊘_, of}
+use Rattle.float64.specs.Choice.{maxOf}
+use Rattle.transient.specs.declared.network.Network.{Network}
+use Rattle.transient.specs.declared.network.Drain.{Drain}
+use Rattle.transient.specs.declared.state.DcTransientState.{DcTransientState}
+use Rattle.transient.specs.Constants.{half, six}
+use Rattle.transient.specs.Network.{stationCount, cableCount}
+use Rattle.transient.specs.Derivatives.{net, derivative}
+
+-- y + h·k, of a state of `size` numbers
+unfoldable pub ahead : ℕ → List Float → Float → List Float → List Float
+ahead size y h k = padded 96 size (λ i. of y i ⊕ h ⊗ of k i) nought
+
+-- k1 + 2·k2 + 2·k3 + k4
+abbrev pub weighted : Float → Float → Float → Float → Float
+weighted k1 k2 k3 k4 = k1 ⊕ two ⊗ k2 ⊕ two ⊗ k3 ⊕ k4
+
+-- y + sixth·(k1 + 2·k2 + 2·k3 + k4)
+unfoldable pub blended : ℕ → List Float → Float → List Float → List Float → List Float → List Float → List Float
+blended size y sixth k1 k2 k3 k4 = padded 96 size (λ i. of y i ⊕ sixth ⊗ weighted (of k1 i) (of k2 i) (of k3 i) (of k4 i)) nought
+
+-- Classical Runge-Kutta for dy/dt = f(y), of a state of `size` numbers: k1 at the start, k2 and k3 half a step on, k4 a whole step on, and y + dt/6·(k1 + 2·k2 + 2·k3 + k4).
+unfoldable pub rk4 : ℕ → (List Float → List Float) → Float → List Float → List Float
+rk4 size f dt y =
+    let k1 = f y in
+    let k2 = f (ahead size y (half ⊗ dt) k1) in
+    let k3 = f (ahead size y (half ⊗ dt) k2) in
+    let k4 = f (ahead size y dt k3) in
+    blended size y (dt ⊘ six) k1 k2 k3 k4
+
+module _ (w : Network) (d : Drain) where
+  abbrev pub stationsIn : ℕ
+  stationsIn = stationCount (w .«n_stations»)
+
+  abbrev pub cablesIn : ℕ
+  cablesIn = cableCount (w .«n_cables»)
+
+  -- dy/dt
+  unfoldable pub derivatives : List Float → List Float
+  derivatives y = padded 96 (stationsIn + cablesIn) (derivative (w .from) (w .to) (w .«resistance_ohm») (w .«inductance_h») (w .«capacitance_f») d stationsIn cablesIn y) nought
+
+  -- the numbers of a state with its voltages raised to 0
+  unfoldable pub raised : List Float → List Float
+  raised y = padded 96 (stationsIn + cablesIn) (λ i. cond (ltb i stationsIn) (maxOf (of y i) nought) (of y i)) nought
+
+  unfoldable pub newState : Float → List Float → List Float
+  newState dt y = raised (rk4 (stationsIn + cablesIn) derivatives dt y)
+
+  -- the state after a step: new voltages and cable currents, station currents from these, all else as it was
+  unfoldable pub rk4Step : DcTransientState → Float → DcTransientState
+  rk4Step s dt =
+      let y = newState dt (s .y) in
+      record {
+        «time_ms» = s .«time_ms»;
+        y = y;
+        «station_currents_ka» = padded 32 stationsIn (net (w .from) (w .to) stationsIn y cablesIn) nought;
+        «fault_current_ka» = s .«fault_current_ka»;
+        «breaker_states» = s .«breaker_states»;
+      }

@@ -1,0 +1,164 @@
+// How fast the voltages of n stations and the currents of m cables change. The state y has the voltages, then the currents.
+ghost use mathlib.Core.Path.{_≡_};
+ghost use Prim.Native.Nat.{_+_, _-_, _≤_};
+ghost use mathlib.Core.Bool.{cond};
+ghost use lib.Dec.{ltb};
+ghost use lib.Ieee.{nan};
+ghost use Rattle.lists.specs.Tables.{blank, over, padded};
+ghost use Rattle.float64.specs.Constants.{nought};
+ghost use Rattle.float64.specs.Arithmetic.{of, _⊖_, _⊗_, _⊘_};
+ghost use Rattle.transient.specs.Derivatives.{passed, net, drainCurrent, drained, cableRate, derivative};
+use crate::network::Drain;
+use grid::cut_end;
+
+// A cable in a stage.
+struct CableStage {
+    v_from_kv: f64,
+    v_to_kv: f64,
+    current_ka: f64,
+    resistance_ohm: f64,
+    inductance_h: f64,
+}
+
+// A station in a stage.
+struct StationStage {
+    net_current_ka: f64,
+    capacitance_f: f64,
+}
+
+// DcSwitchingSimulator::state_derivatives, into zeros
+pub fn state_derivatives(
+    dy: &mut [f64; 96],
+    from: &[usize; 64],
+    to: &[usize; 64],
+    r: &[f64; 64],
+    l: &[f64; 64],
+    c: &[f64; 32],
+    drain: Drain,
+    y: &[f64; 96],
+    n: usize,
+    m: usize,
+)
+    requires { ⌜ (n ≤ 32) × (m ≤ 64) × (dy .now ≡ blank 96 nought) ⌝ }
+    ensures { λ _. ⌜ now (dy .exit) ≡ padded 96 (n + m) (derivative (now (from .entry)) (now (to .entry)) (now (r .entry)) (now (l .entry)) (now (c .entry)) drain n m (now (y .entry))) nought ⌝ }
+{
+    let mut nets = [0.0; 32];
+    net_currents(&mut nets, from, to, y, n, m);
+    drain_ends(&mut nets, drain, y, n);
+    station_rates(dy, &nets, c, n);
+    cable_rates(dy, from, to, r, l, y, n, m);
+}
+
+// The current into each station, into zeros. One pass over the cables: to each station's sum they are added in their order, as if the
+// cables were gone through for each station.
+pub fn net_currents(
+    nets: &mut [f64; 32],
+    from: &[usize; 64],
+    to: &[usize; 64],
+    y: &[f64; 96],
+    n: usize,
+    m: usize,
+)
+    requires { ⌜ (n ≤ 32) × (m ≤ 64) × (nets .now ≡ blank 32 nought) ⌝ }
+    ensures { λ _. ⌜ now (nets .exit) ≡ padded 32 n (net (now (from .entry)) (now (to .entry)) n (now (y .entry)) m) nought ⌝ }
+{
+    let mut k = 0;
+    while k < m {
+        pass_current(nets, from[k], to[k], y[n + k], n);
+        k += 1;
+    }
+}
+
+// Into the station at its second end, and out of the one at its first unless the two are one.
+fn pass_current(nets: &mut [f64; 32], from: usize, to: usize, current: f64, n: usize)
+    requires { ⌜ n ≤ 32 ⌝ }
+    ensures { λ _. ⌜ now (nets .exit) ≡ over n (λ i. passed from to current i (of (now (nets .entry)) i)) nan (now (nets .entry)) ⌝ }
+{
+    if to < n {
+        nets[to] = nets[to] + current;
+    }
+    if from < n {
+        if from != to {
+            nets[from] = nets[from] - current;
+        }
+    }
+}
+
+// Out of the stations at both ends of the faulted cable, once if the two are one.
+fn drain_ends(nets: &mut [f64; 32], drain: Drain, y: &[f64; 96], n: usize)
+    requires { ⌜ n ≤ 32 ⌝ }
+    ensures { λ _. ⌜ now (nets .exit) ≡ over n (λ i. drained drain (now (y .entry)) i (of (now (nets .entry)) i)) nan (now (nets .entry)) ⌝ }
+{
+    let from = drain.from;
+    let to = drain.to;
+    if from < n {
+        nets[from] = nets[from] - drain_current(drain, y[from]);
+    }
+    if to < n {
+        if to != from {
+            nets[to] = nets[to] - drain_current(drain, y[to]);
+        }
+    }
+}
+
+fn drain_current(drain: Drain, v_kv: f64) -> f64
+    ensures { λ r. ⌜ r ≡ drainCurrent drain «v_kv» ⌝ }
+{
+    v_kv * 1000.0 / drain.resistance * drain.fraction
+}
+
+// The rates of the voltages, into zeros.
+fn station_rates(dy: &mut [f64; 96], nets: &[f64; 32], c: &[f64; 32], n: usize)
+    requires { ⌜ (n ≤ 32) × (dy .now ≡ blank 96 nought) ⌝ }
+    ensures { λ _. ⌜ now (dy .exit) ≡ padded 96 n (λ i. of (now (nets .entry)) i ⊘ of (now (c .entry)) i) nought ⌝ }
+{
+    let mut i = 0;
+    while i < n {
+        let s = StationStage {
+            net_current_ka: nets[i],
+            capacitance_f: c[i],
+        };
+        dy[i] = station_rate(s);
+        i += 1;
+    }
+}
+
+fn station_rate(s: StationStage) -> f64
+    ensures { λ r. ⌜ r ≡ s .«net_current_ka» ⊘ s .«capacitance_f» ⌝ }
+{
+    s.net_current_ka / s.capacitance_f
+}
+
+// The rates of the currents, after those of the voltages.
+fn cable_rates(
+    dy: &mut [f64; 96],
+    from: &[usize; 64],
+    to: &[usize; 64],
+    r: &[f64; 64],
+    l: &[f64; 64],
+    y: &[f64; 96],
+    n: usize,
+    m: usize,
+)
+    requires { ⌜ (n ≤ 32) × (m ≤ 64) ⌝ }
+    ensures { λ _. ⌜ now (dy .exit) ≡ over (n + m) (λ i. cond (ltb i n) (of (now (dy .entry)) i) (cableRate (now (from .entry)) (now (to .entry)) (now (r .entry)) (now (l .entry)) n (now (y .entry)) (i - n))) nan (now (dy .entry)) ⌝ }
+{
+    let mut k = 0;
+    while k < m {
+        let cable = CableStage {
+            v_from_kv: y[cut_end(from[k] as u64, n)],
+            v_to_kv: y[cut_end(to[k] as u64, n)],
+            current_ka: y[n + k],
+            resistance_ohm: r[k],
+            inductance_h: l[k],
+        };
+        dy[n + k] = cable_rate(cable);
+        k += 1;
+    }
+}
+
+fn cable_rate(c: CableStage) -> f64
+    ensures { λ r. ⌜ r ≡ (c .«v_from_kv» ⊖ c .«v_to_kv» ⊖ c .«resistance_ohm» ⊗ c .«current_ka») ⊘ c .«inductance_h» ⌝ }
+{
+    (c.v_from_kv - c.v_to_kv - c.resistance_ohm * c.current_ka) / c.inductance_h
+}

@@ -1,0 +1,128 @@
+// One step of classical Runge-Kutta.
+ghost use mathlib.Core.Path.{_≡_};
+ghost use Prim.Native.Nat.{_≤_};
+ghost use lib.Ieee.{nan};
+ghost use Rattle.lists.specs.Tables.{blank, over};
+ghost use Rattle.float64.specs.Constants.{nought};
+ghost use Rattle.float64.specs.Arithmetic.{of};
+ghost use Rattle.float64.specs.Choice.{maxOf};
+ghost use Rattle.transient.specs.Rk4.{ahead, blended, weighted, rk4Step};
+use crate::derivatives::net_currents;
+use crate::derivatives::state_derivatives;
+use crate::network::Drain;
+use crate::network::Network;
+use crate::state::DcTransientState;
+use float64::max;
+use grid::present;
+
+// The slopes of one number of the state.
+struct Slopes {
+    k1: f64,
+    k2: f64,
+    k3: f64,
+    k4: f64,
+}
+
+// DcSwitchingSimulator::rk4_step. The arrays are taken out of the structs once and lent to the stages, so that none copies them.
+pub fn rk4_step(
+    network: Network,
+    drain: Drain,
+    state: DcTransientState,
+    dt_s: f64,
+) -> DcTransientState
+    ensures { λ r. ⌜ r ≡ rk4Step network drain state «dt_s» ⌝ }
+{
+    let n = present(network.n_stations, 32);
+    let m = present(network.n_cables, 64);
+    let from = network.from;
+    let to = network.to;
+    let r = network.resistance_ohm;
+    let l = network.inductance_h;
+    let c = network.capacitance_f;
+    let y = state.y;
+    let breaker_states = state.breaker_states;
+    let half = 0.5 * dt_s;
+    let mut k1 = [0.0; 96];
+    state_derivatives(&mut k1, &from, &to, &r, &l, &c, drain, &y, n, m);
+    let mut y2 = [0.0; 96];
+    move_along(&mut y2, &y, half, &k1, n + m);
+    let mut k2 = [0.0; 96];
+    state_derivatives(&mut k2, &from, &to, &r, &l, &c, drain, &y2, n, m);
+    let mut y3 = [0.0; 96];
+    move_along(&mut y3, &y, half, &k2, n + m);
+    let mut k3 = [0.0; 96];
+    state_derivatives(&mut k3, &from, &to, &r, &l, &c, drain, &y3, n, m);
+    let mut y4 = [0.0; 96];
+    move_along(&mut y4, &y, dt_s, &k3, n + m);
+    let mut k4 = [0.0; 96];
+    state_derivatives(&mut k4, &from, &to, &r, &l, &c, drain, &y4, n, m);
+    let mut y_new = [0.0; 96];
+    combine(&mut y_new, &y, dt_s / 6.0, &k1, &k2, &k3, &k4, n + m);
+    raise_voltages(&mut y_new, n);
+    let mut currents = [0.0; 32];
+    net_currents(&mut currents, &from, &to, &y_new, n, m);
+    DcTransientState {
+        time_ms: state.time_ms,
+        y: y_new,
+        station_currents_ka: currents,
+        fault_current_ka: state.fault_current_ka,
+        breaker_states,
+    }
+}
+
+// The state of a stage, into zeros.
+fn move_along(out: &mut [f64; 96], y: &[f64; 96], h: f64, k: &[f64; 96], size: usize)
+    requires { ⌜ (size ≤ 96) × (out .now ≡ blank 96 nought) ⌝ }
+    ensures { λ _. ⌜ now (out .exit) ≡ ahead size (now (y .entry)) h (now (k .entry)) ⌝ }
+{
+    let mut i = 0;
+    while i < size {
+        out[i] = y[i] + h * k[i];
+        i += 1;
+    }
+}
+
+// The slopes of all stages together, into zeros.
+fn combine(
+    out: &mut [f64; 96],
+    y: &[f64; 96],
+    sixth: f64,
+    k1: &[f64; 96],
+    k2: &[f64; 96],
+    k3: &[f64; 96],
+    k4: &[f64; 96],
+    size: usize,
+)
+    requires { ⌜ (size ≤ 96) × (out .now ≡ blank 96 nought) ⌝ }
+    ensures { λ _. ⌜ now (out .exit) ≡ blended size (now (y .entry)) sixth (now (k1 .entry)) (now (k2 .entry)) (now (k3 .entry)) (now (k4 .entry)) ⌝ }
+{
+    let mut i = 0;
+    while i < size {
+        let s = Slopes {
+            k1: k1[i],
+            k2: k2[i],
+            k3: k3[i],
+            k4: k4[i],
+        };
+        out[i] = y[i] + sixth * weigh(s);
+        i += 1;
+    }
+}
+
+fn weigh(s: Slopes) -> f64
+    ensures { λ r. ⌜ r ≡ weighted (s .k1) (s .k2) (s .k3) (s .k4) ⌝ }
+{
+    s.k1 + 2.0 * s.k2 + 2.0 * s.k3 + s.k4
+}
+
+// New voltages are at least 0.
+fn raise_voltages(y: &mut [f64; 96], n: usize)
+    requires { ⌜ n ≤ 32 ⌝ }
+    ensures { λ _. ⌜ now (y .exit) ≡ over n (λ i. maxOf (of (now (y .entry)) i) nought) nan (now (y .entry)) ⌝ }
+{
+    let mut i = 0;
+    while i < n {
+        y[i] = max(y[i], 0.0);
+        i += 1;
+    }
+}
