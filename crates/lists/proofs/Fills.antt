@@ -1,5 +1,5 @@
 -- A loop that fills an array from the front: after i turns the array is `upto i f d`, d what it was before. Assumes nothing.
-use mathlib.Core.Path.{_≡_, refl, sym, _∙_}
+use mathlib.Core.Path.{_≡_, refl, sym, ap, _∙_}
 use mathlib.Core.Bool.{cond}
 use mathlib.Core.Logic.{⊎-elim}
 use mathlib.Core.List.{List, [], _∷_}
@@ -131,16 +131,35 @@ module _ {ℓ} {A : Type ℓ} where
       tab-same m (λ i. cond (ltb i n) (f i) z) (λ i. cond (ltb i n) (g i) z)
       (λ k lk. ⊎-elim (λ a. rw (lt-ltb k n a) (h k a)) (λ b. rw (le-ltb k n b)) (lt-or-le k n))
 
-  -- the first n of an array that is padded from n on, replaced
-  pub over-padded : (m n : ℕ) (f g : ℕ → A) (z d : A) → over n g d (padded m n f z) ≡ padded m n g z
+  -- the first s of an array that is padded from n on or before, replaced
+  pub over-longer : (m n s : ℕ) (f g : ℕ → A) (z d : A) → n ≤ s → over s g d (padded m n f z) ≡ padded m s g z
   unfolding over padded
-  over-padded m n f g z d =
+  over-longer m n s f g z d l =
       rw (length-tab m (λ i. cond (ltb i n) (f i) z))
-      (tab-same m (λ i. cond (ltb i n) (g i) (getD (tab m (λ q. cond (ltb q n) (f q) z)) i d)) (λ i. cond (ltb i n) (g i) z)
+      (tab-same m (λ i. cond (ltb i s) (g i) (getD (tab m (λ q. cond (ltb q n) (f q) z)) i d)) (λ i. cond (ltb i s) (g i) z)
       (λ k lk. ⊎-elim
-      (λ a. rw (lt-ltb k n a))
-      (λ b. rw (le-ltb k n b) (getD-tab m (λ q. cond (ltb q n) (f q) z) d k lk ∙ rw (le-ltb k n b)))
-      (lt-or-le k n)))
+      (λ a. rw (lt-ltb k s a))
+      (λ b. rw (le-ltb k s b) (getD-tab m (λ q. cond (ltb q n) (f q) z) d k lk ∙ rw (le-ltb k n (let h : n ≤ k = omega arith in h))))
+      (lt-or-le k s)))
+
+  pub over-padded : (m n : ℕ) (f g : ℕ → A) (z d : A) → over n g d (padded m n f z) ≡ padded m n g z
+  over-padded m n f g z d = over-longer m n n f g z d (omega arith)
+
+  -- each of them replaced by what it is
+  pub over-each : (m n : ℕ) (f : ℕ → A) (g : ℕ → A → A) (z d : A) → n ≤ m → over n (λ i. g i (getD (padded m n f z) i d)) d (padded m n f z) ≡ padded m n (λ i. g i (f i)) z
+  over-each m n f g z d l = over-padded m n f _ z d ∙ padded-same m n _ (λ i. g i (f i)) z (λ k lk. ap (g k) (getD-padded m n f z d k lk l))
+
+  -- only the first n of s replaced
+  pub over-within : (m n s : ℕ) (f g : ℕ → A) (z d : A) → n ≤ s → over n g d (padded m s f z) ≡ padded m s (λ i. cond (ltb i n) (g i) (getD (padded m s f z) i d)) z
+  unfolding over padded
+  over-within m n s f g z d l =
+      let e : ℕ → A = λ q. cond (ltb q s) (f q) z in
+      rw (length-tab m e)
+      (tab-same m (λ i. cond (ltb i n) (g i) (getD (tab m e) i d)) (λ i. cond (ltb i s) (cond (ltb i n) (g i) (getD (tab m e) i d)) z)
+      (λ k lk. ⊎-elim
+      (λ a. rw (lt-ltb k s a))
+      (λ b. rw (le-ltb k n (let h : n ≤ k = omega arith in h), le-ltb k s b) (getD-tab m e d k lk ∙ rw (le-ltb k s b)))
+      (lt-or-le k s)))
 
   -- an array that is z everywhere
   pub blank-padded : (m n : ℕ) (z : A) → blank m z ≡ padded m n (λ i. z) z
@@ -154,3 +173,12 @@ module _ {ℓ} {A : Type ℓ} where
   getD-within [] k d e l = absurd (not-suc-le-zero l)
   getD-within (y ∷ ys) zero d e l = refl
   getD-within (y ∷ ys) (suc k) d e l = getD-within ys k d e (le-of-suc-le-suc l)
+
+  -- stores of what stood there
+  pub upto-kept : (n : ℕ) (f : ℕ → A) (z : A) (d : List A) → ((k : ℕ) → k < n → f k ≡ getD d k z) → d ≡ upto n f d
+  upto-kept n f z d h =
+      ext-getD z d (upto n f d) (sym (length-upto n f d))
+      (λ k lk. ⊎-elim
+      (λ a. sym (h k a) ∙ sym (getD-upto-in n f d z k a lk))
+      (λ b. sym (getD-upto-out n f d z k b))
+      (lt-or-le k n))

@@ -2,3 +2,4 @@ pub mod Counting
 pub mod Fills
 pub mod Scanning
 pub mod Folds
+pub mod Places

@@ -6,6 +6,7 @@ use mathlib.Core.List.{List}
 use lib.Dec.{eqb, ltb}
 use lib.ListN.{getD}
 use lib.Ieee.{Float}
+use Rattle.lists.specs.Tables.{padded}
 use Rattle.float64.specs.Constants.{nought}
 use Rattle.float64.specs.Arithmetic.{_⊕_, _⊖_, _⊗_, _⊘_, of}
 use Rattle.grid.specs.Cables.{cut}
@@ -41,5 +42,9 @@ stationRate from to c d n m y i = drained d y i (net from to n y m i) ⊘ of c i
 abbrev pub cableRate : List ℕ → List ℕ → List Float → List Float → ℕ → List Float → ℕ → Float
 cableRate from to r l n y k = (of y (cut n (end from k)) ⊖ of y (cut n (end to k)) ⊖ of r k ⊗ of y (n + k)) ⊘ of l k
 
+-- of number i of the state
 abbrev pub derivative : List ℕ → List ℕ → List Float → List Float → List Float → Drain → ℕ → ℕ → List Float → ℕ → Float
 derivative from to r l c d n m y i = cond (ltb i n) (stationRate from to c d n m y i) (cableRate from to r l n y (i - n))
+
+unfoldable pub derivatives : List ℕ → List ℕ → List Float → List Float → List Float → Drain → ℕ → ℕ → List Float → List Float
+derivatives from to r l c d n m y = padded 96 (n + m) (derivative from to r l c d n m y) nought

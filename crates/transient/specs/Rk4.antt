@@ -13,7 +13,7 @@ use Rattle.transient.specs.declared.network.Drain.{Drain}
 use Rattle.transient.specs.declared.state.DcTransientState.{DcTransientState}
 use Rattle.transient.specs.Constants.{half, six}
 use Rattle.transient.specs.Network.{stationCount, cableCount}
-use Rattle.transient.specs.Derivatives.{net, derivative}
+use Rattle.transient.specs.Derivatives.{net, derivatives}
 
 -- y + h·k, of a state of `size` numbers
 unfoldable pub ahead : ℕ → List Float → Float → List Float → List Float
@@ -44,15 +44,15 @@ module _ (w : Network) (d : Drain) where
   cablesIn = cableCount (w .«n_cables»)
 
   -- dy/dt
-  unfoldable pub derivatives : List Float → List Float
-  derivatives y = padded 96 (stationsIn + cablesIn) (derivative (w .from) (w .to) (w .«resistance_ohm») (w .«inductance_h») (w .«capacitance_f») d stationsIn cablesIn y) nought
+  abbrev pub slopes : List Float → List Float
+  slopes = derivatives (w .from) (w .to) (w .«resistance_ohm») (w .«inductance_h») (w .«capacitance_f») d stationsIn cablesIn
 
   -- the numbers of a state with its voltages raised to 0
   unfoldable pub raised : List Float → List Float
   raised y = padded 96 (stationsIn + cablesIn) (λ i. cond (ltb i stationsIn) (maxOf (of y i) nought) (of y i)) nought
 
   unfoldable pub newState : Float → List Float → List Float
-  newState dt y = raised (rk4 (stationsIn + cablesIn) derivatives dt y)
+  newState dt y = raised (rk4 (stationsIn + cablesIn) slopes dt y)
 
   -- the state after a step: new voltages and cable currents, station currents from these, all else as it was
   unfoldable pub rk4Step : DcTransientState → Float → DcTransientState

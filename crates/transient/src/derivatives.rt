@@ -7,7 +7,7 @@ ghost use lib.Ieee.{nan};
 ghost use Rattle.lists.specs.Tables.{blank, over, padded};
 ghost use Rattle.float64.specs.Constants.{nought};
 ghost use Rattle.float64.specs.Arithmetic.{of, _⊖_, _⊗_, _⊘_};
-ghost use Rattle.transient.specs.Derivatives.{passed, net, drainCurrent, drained, cableRate, derivative};
+ghost use Rattle.transient.specs.Derivatives.{passed, net, drainCurrent, drained, cableRate, derivatives};
 use crate::network::Drain;
 use grid::cut_end;
 
@@ -40,7 +40,7 @@ pub fn state_derivatives(
     m: usize,
 )
     requires { ⌜ (n ≤ 32) × (m ≤ 64) × (dy .now ≡ blank 96 nought) ⌝ }
-    ensures { λ _. ⌜ now (dy .exit) ≡ padded 96 (n + m) (derivative (now (from .entry)) (now (to .entry)) (now (r .entry)) (now (l .entry)) (now (c .entry)) drain n m (now (y .entry))) nought ⌝ }
+    ensures { λ _. ⌜ now (dy .exit) ≡ derivatives (now (from .entry)) (now (to .entry)) (now (r .entry)) (now (l .entry)) (now (c .entry)) drain n m (now (y .entry)) ⌝ }
 {
     let mut nets = [0.0; 32];
     net_currents(&mut nets, from, to, y, n, m);

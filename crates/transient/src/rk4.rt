@@ -1,12 +1,13 @@
 // One step of classical Runge-Kutta.
 ghost use mathlib.Core.Path.{_≡_};
-ghost use Prim.Native.Nat.{_≤_};
+ghost use Prim.Native.Nat.{_+_, _≤_};
 ghost use lib.Ieee.{nan};
 ghost use Rattle.lists.specs.Tables.{blank, over};
 ghost use Rattle.float64.specs.Constants.{nought};
 ghost use Rattle.float64.specs.Arithmetic.{of};
 ghost use Rattle.float64.specs.Choice.{maxOf};
-ghost use Rattle.transient.specs.Rk4.{ahead, blended, weighted, rk4Step};
+ghost use Rattle.transient.specs.Derivatives.{derivatives};
+ghost use Rattle.transient.specs.Rk4.{ahead, blended, weighted, rk4, rk4Step};
 use crate::derivatives::net_currents;
 use crate::derivatives::state_derivatives;
 use crate::network::Drain;
@@ -41,23 +42,8 @@ pub fn rk4_step(
     let c = network.capacitance_f;
     let y = state.y;
     let breaker_states = state.breaker_states;
-    let half = 0.5 * dt_s;
-    let mut k1 = [0.0; 96];
-    state_derivatives(&mut k1, &from, &to, &r, &l, &c, drain, &y, n, m);
-    let mut y2 = [0.0; 96];
-    move_along(&mut y2, &y, half, &k1, n + m);
-    let mut k2 = [0.0; 96];
-    state_derivatives(&mut k2, &from, &to, &r, &l, &c, drain, &y2, n, m);
-    let mut y3 = [0.0; 96];
-    move_along(&mut y3, &y, half, &k2, n + m);
-    let mut k3 = [0.0; 96];
-    state_derivatives(&mut k3, &from, &to, &r, &l, &c, drain, &y3, n, m);
-    let mut y4 = [0.0; 96];
-    move_along(&mut y4, &y, dt_s, &k3, n + m);
-    let mut k4 = [0.0; 96];
-    state_derivatives(&mut k4, &from, &to, &r, &l, &c, drain, &y4, n, m);
     let mut y_new = [0.0; 96];
-    combine(&mut y_new, &y, dt_s / 6.0, &k1, &k2, &k3, &k4, n + m);
+    combine_stages(&mut y_new, &y, dt_s, &from, &to, &r, &l, &c, drain, n, m);
     raise_voltages(&mut y_new, n);
     let mut currents = [0.0; 32];
     net_currents(&mut currents, &from, &to, &y_new, n, m);
@@ -68,6 +54,58 @@ pub fn rk4_step(
         fault_current_ka: state.fault_current_ka,
         breaker_states,
     }
+}
+
+// The four stages and their sum, into zeros: k1 at the start, k2 and k3 half a step on, k4 a whole step on.
+fn combine_stages(
+    out: &mut [f64; 96],
+    y: &[f64; 96],
+    dt_s: f64,
+    from: &[usize; 64],
+    to: &[usize; 64],
+    r: &[f64; 64],
+    l: &[f64; 64],
+    c: &[f64; 32],
+    drain: Drain,
+    n: usize,
+    m: usize,
+)
+    requires { ⌜ (n ≤ 32) × (m ≤ 64) × (out .now ≡ blank 96 nought) ⌝ }
+    ensures { λ _. ⌜ now (out .exit) ≡ rk4 (n + m) (derivatives (now (from .entry)) (now (to .entry)) (now (r .entry)) (now (l .entry)) (now (c .entry)) drain n m) «dt_s» (now (y .entry)) ⌝ }
+{
+    let half = 0.5 * dt_s;
+    let mut k1 = [0.0; 96];
+    state_derivatives(&mut k1, from, to, r, l, c, drain, y, n, m);
+    let mut k2 = [0.0; 96];
+    slopes_ahead(&mut k2, y, half, &k1, from, to, r, l, c, drain, n, m);
+    let mut k3 = [0.0; 96];
+    slopes_ahead(&mut k3, y, half, &k2, from, to, r, l, c, drain, n, m);
+    let mut k4 = [0.0; 96];
+    slopes_ahead(&mut k4, y, dt_s, &k3, from, to, r, l, c, drain, n, m);
+    blend(out, y, dt_s / 6.0, &k1, &k2, &k3, &k4, n + m);
+}
+
+// The slopes at the state that the slopes k lead to, into zeros.
+fn slopes_ahead(
+    slopes: &mut [f64; 96],
+    y: &[f64; 96],
+    h: f64,
+    k: &[f64; 96],
+    from: &[usize; 64],
+    to: &[usize; 64],
+    r: &[f64; 64],
+    l: &[f64; 64],
+    c: &[f64; 32],
+    drain: Drain,
+    n: usize,
+    m: usize,
+)
+    requires { ⌜ (n ≤ 32) × (m ≤ 64) × (slopes .now ≡ blank 96 nought) ⌝ }
+    ensures { λ _. ⌜ now (slopes .exit) ≡ derivatives (now (from .entry)) (now (to .entry)) (now (r .entry)) (now (l .entry)) (now (c .entry)) drain n m (ahead (n + m) (now (y .entry)) h (now (k .entry))) ⌝ }
+{
+    let mut y_ahead = [0.0; 96];
+    move_along(&mut y_ahead, y, h, k, n + m);
+    state_derivatives(slopes, from, to, r, l, c, drain, &y_ahead, n, m);
 }
 
 // The state of a stage, into zeros.
@@ -83,7 +121,7 @@ fn move_along(out: &mut [f64; 96], y: &[f64; 96], h: f64, k: &[f64; 96], size: u
 }
 
 // The slopes of all stages together, into zeros.
-fn combine(
+fn blend(
     out: &mut [f64; 96],
     y: &[f64; 96],
     sixth: f64,
