@@ -1,6 +1,6 @@
 -- A scan of a list up to a count, at any element type and any test. Assumes nothing.
 use Prim.Native.Nat.{ℕ, zero, suc, _+_, _≤_, _<_, min}
-use native.Mathlib.Nat.{not-suc-le-zero, le-of-suc-le-suc}
+use native.Mathlib.Nat.{not-suc-le-zero, le-of-suc-le-suc, eq-or-lt-of-le}
 use native.Mathlib.Numerals.{add-one}
 use native.Mathlib.Omega.{arith}
 use borrow.Author.Tests.{lt-ltb}
@@ -11,7 +11,7 @@ use mathlib.Core.List.{List, [], _∷_, map}
 use lib.Dec.{ltb, leb·suc-suc}
 use lib.ListN.{length, getD, take, length-map, length-take}
 use lib.Seq.{take-all, length-take-le}
-use Rattle.lists.specs.Scans.{every, passing}
+use Rattle.lists.specs.Scans.{every, passing, some}
 use Rattle.lists.proofs.Counting.{by-test, lt-or-le}
 
 pub and-second : (a b : Bool) → b ≡ false → (a && b) ≡ false
@@ -107,3 +107,17 @@ module _ {A : Type 0} (f : A → Bool) where
 -- the length of an array of structs, as owning it tells
 pub unmapped : {A B : Type 0} (f : A → B) (l : List A) (n : ℕ) → length (map f l) ≡ n → length l ≡ n
 unmapped f l n h = sym (length-map l f) ∙ h
+
+module _ (f : ℕ → Bool) where
+  -- one that holds, below the count
+  pub some-found : (n i : ℕ) → i < n → f i ≡ true → some n f ≡ true
+  some-found zero i l h = absurd (not-suc-le-zero l)
+  some-found (suc n) i l h =
+      ⊎-elim
+      (λ e. or-second (some n f) (f n) (rw (← e) h))
+      (λ lt. rw (some-found n i lt h))
+      (eq-or-lt-of-le (le-of-suc-le-suc l))
+
+  -- one more that does not
+  pub some-none : (i : ℕ) → some i f ≡ false → f i ≡ false → some (i + 1) f ≡ false
+  some-none i p h = rw (add-one, p, h)
