@@ -1,6 +1,6 @@
 -- The constants of 000's detection. Each is written by its bits, as a literal of the code is, and the law at the end says of which decimal it is the nearest double.
 use mathlib.Core.Path.{_≡_, refl}
-use Prim.Native.Nat.{ℕ, _^_}
+use Prim.Native.Nat.{_^_}
 use lib.Ieee.{Float, binary64, ofBits, round}
 use Rattle.float64.specs.Constants.{decimal}
 

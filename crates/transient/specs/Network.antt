@@ -46,6 +46,10 @@ stationCount n = min n 32
 abbrev pub cableCount : ℕ → ℕ
 cableCount m = min m 64
 
+-- the number at a position of such a table of ends
+abbrev pub end : List ℕ → ℕ → ℕ
+end ends k = getD ends k 0
+
 -- the ends as given, R, L and C
 unfoldable pub networkOf : DcSwitchingSimulator → Network
 networkOf g =

@@ -12,7 +12,7 @@ use Rattle.transient.specs.declared.network.Network.{Network}
 use Rattle.transient.specs.declared.network.Drain.{Drain}
 use Rattle.transient.specs.declared.state.DcTransientState.{DcTransientState}
 use Rattle.transient.specs.Constants.{half, six}
-use Rattle.transient.specs.Network.{stationCount, cableCount}
+use Rattle.transient.specs.Network.{stationCount, cableCount, end}
 use Rattle.transient.specs.Derivatives.{net, derivatives}
 
 -- y + h·k, of a state of `size` numbers
@@ -45,7 +45,7 @@ module _ (w : Network) (d : Drain) where
 
   -- dy/dt
   abbrev pub slopes : List Float → List Float
-  slopes = derivatives (w .from) (w .to) (w .«resistance_ohm») (w .«inductance_h») (w .«capacitance_f») d stationsIn cablesIn
+  slopes = derivatives (end (w .from)) (end (w .to)) (of (w .«resistance_ohm»)) (of (w .«inductance_h»)) (of (w .«capacitance_f»)) d stationsIn cablesIn
 
   -- the numbers of a state with its voltages raised to 0
   unfoldable pub raised : List Float → List Float
@@ -61,7 +61,7 @@ module _ (w : Network) (d : Drain) where
       record {
         «time_ms» = s .«time_ms»;
         y = y;
-        «station_currents_ka» = padded 32 stationsIn (net (w .from) (w .to) stationsIn y cablesIn) nought;
+        «station_currents_ka» = padded 32 stationsIn (net (end (w .from)) (end (w .to)) stationsIn y cablesIn) nought;
         «fault_current_ka» = s .«fault_current_ka»;
         «breaker_states» = s .«breaker_states»;
       }

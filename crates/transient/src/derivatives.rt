@@ -7,6 +7,7 @@ ghost use lib.Ieee.{nan};
 ghost use Rattle.lists.specs.Tables.{blank, over, padded};
 ghost use Rattle.float64.specs.Constants.{nought};
 ghost use Rattle.float64.specs.Arithmetic.{of, _⊖_, _⊗_, _⊘_};
+ghost use Rattle.transient.specs.Network.{end};
 ghost use Rattle.transient.specs.Derivatives.{passed, net, drainCurrent, drained, cableRate, derivatives};
 use crate::network::Drain;
 use grid::cut_end;
@@ -40,7 +41,7 @@ pub fn state_derivatives(
     m: usize,
 )
     requires { ⌜ (n ≤ 32) × (m ≤ 64) × (dy .now ≡ blank 96 nought) ⌝ }
-    ensures { λ _. ⌜ now (dy .exit) ≡ derivatives (now (from .entry)) (now (to .entry)) (now (r .entry)) (now (l .entry)) (now (c .entry)) drain n m (now (y .entry)) ⌝ }
+    ensures { λ _. ⌜ now (dy .exit) ≡ derivatives (end (now (from .entry))) (end (now (to .entry))) (of (now (r .entry))) (of (now (l .entry))) (of (now (c .entry))) drain n m (now (y .entry)) ⌝ }
 {
     let mut nets = [0.0; 32];
     net_currents(&mut nets, from, to, y, n, m);
@@ -60,7 +61,7 @@ pub fn net_currents(
     m: usize,
 )
     requires { ⌜ (n ≤ 32) × (m ≤ 64) × (nets .now ≡ blank 32 nought) ⌝ }
-    ensures { λ _. ⌜ now (nets .exit) ≡ padded 32 n (net (now (from .entry)) (now (to .entry)) n (now (y .entry)) m) nought ⌝ }
+    ensures { λ _. ⌜ now (nets .exit) ≡ padded 32 n (net (end (now (from .entry))) (end (now (to .entry))) n (now (y .entry)) m) nought ⌝ }
 {
     let mut k = 0;
     while k < m {
@@ -141,7 +142,7 @@ fn cable_rates(
     m: usize,
 )
     requires { ⌜ (n ≤ 32) × (m ≤ 64) ⌝ }
-    ensures { λ _. ⌜ now (dy .exit) ≡ over (n + m) (λ i. cond (ltb i n) (of (now (dy .entry)) i) (cableRate (now (from .entry)) (now (to .entry)) (now (r .entry)) (now (l .entry)) n (now (y .entry)) (i - n))) nan (now (dy .entry)) ⌝ }
+    ensures { λ _. ⌜ now (dy .exit) ≡ over (n + m) (λ i. cond (ltb i n) (of (now (dy .entry)) i) (cableRate (end (now (from .entry))) (end (now (to .entry))) (of (now (r .entry))) (of (now (l .entry))) n (now (y .entry)) (i - n))) nan (now (dy .entry)) ⌝ }
 {
     let mut k = 0;
     while k < m {

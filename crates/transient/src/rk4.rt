@@ -6,6 +6,7 @@ ghost use Rattle.lists.specs.Tables.{blank, over};
 ghost use Rattle.float64.specs.Constants.{nought};
 ghost use Rattle.float64.specs.Arithmetic.{of};
 ghost use Rattle.float64.specs.Choice.{maxOf};
+ghost use Rattle.transient.specs.Network.{end};
 ghost use Rattle.transient.specs.Derivatives.{derivatives};
 ghost use Rattle.transient.specs.Rk4.{ahead, blended, weighted, rk4, rk4Step};
 use crate::derivatives::net_currents;
@@ -71,7 +72,7 @@ fn combine_stages(
     m: usize,
 )
     requires { ⌜ (n ≤ 32) × (m ≤ 64) × (out .now ≡ blank 96 nought) ⌝ }
-    ensures { λ _. ⌜ now (out .exit) ≡ rk4 (n + m) (derivatives (now (from .entry)) (now (to .entry)) (now (r .entry)) (now (l .entry)) (now (c .entry)) drain n m) «dt_s» (now (y .entry)) ⌝ }
+    ensures { λ _. ⌜ now (out .exit) ≡ rk4 (n + m) (derivatives (end (now (from .entry))) (end (now (to .entry))) (of (now (r .entry))) (of (now (l .entry))) (of (now (c .entry))) drain n m) «dt_s» (now (y .entry)) ⌝ }
 {
     let half = 0.5 * dt_s;
     let mut k1 = [0.0; 96];
@@ -101,7 +102,7 @@ fn slopes_ahead(
     m: usize,
 )
     requires { ⌜ (n ≤ 32) × (m ≤ 64) × (slopes .now ≡ blank 96 nought) ⌝ }
-    ensures { λ _. ⌜ now (slopes .exit) ≡ derivatives (now (from .entry)) (now (to .entry)) (now (r .entry)) (now (l .entry)) (now (c .entry)) drain n m (ahead (n + m) (now (y .entry)) h (now (k .entry))) ⌝ }
+    ensures { λ _. ⌜ now (slopes .exit) ≡ derivatives (end (now (from .entry))) (end (now (to .entry))) (of (now (r .entry))) (of (now (l .entry))) (of (now (c .entry))) drain n m (ahead (n + m) (now (y .entry)) h (now (k .entry))) ⌝ }
 {
     let mut y_ahead = [0.0; 96];
     move_along(&mut y_ahead, y, h, k, n + m);

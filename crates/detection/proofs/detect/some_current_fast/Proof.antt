@@ -1,17 +1,15 @@
+-- `some_current_fast` meets its contract. Assumes nothing.
 use Rattle.detection.specs.Detection.{fastCable}
 use Rattle.lists.proofs.Scanning.{some-found, some-none}
 use Rattle.lists.proofs.Counting.{at-end}
 use Rattle.lists.specs.Scans.{some}
 use native.Mathlib.Omega.{arith}
-use Prim.Native.Nat.{ℕ, _+_, _-_, _≤_}
-use mathlib.Core.Bool.{Bool, false}
+use Prim.Native.Nat.{_-_, _≤_}
+use mathlib.Core.Bool.{false}
 use mathlib.Core.Path.{_≡_, refl, sym, _∙_}
 use borrow.Author.Needs.{needs}
 use Rattle.detection.proofs.detect.some_current_fast.Statement.{statement}
 use Rattle.detection.proofs.detect.some_current_fast.Tie as tie
-use Rattle.detection.proofs.detect.some_current_fast.Reads as reads
-use Rattle.detection.proofs.detect.some_current_fast.Lts as lts
-use Rattle.detection.proofs.detect.is_fast.Reads as is-fast-reads
 
 abbrev Inv-loop : tie.InvT-loop
 Inv-loop y before dt-ms n-stations n-cables k₀ k = (k ≤ n-cables) × (some k (fastCable n-stations dt-ms y before) ≡ false)
@@ -19,61 +17,48 @@ Inv-loop y before dt-ms n-stations n-cables k₀ k = (k ≤ n-cables) × (some k
 abbrev μ-loop : tie.MeasureT-loop
 μ-loop y before dt-ms n-stations n-cables k₀ k = n-cables - k
 
--- src/detect.rt:67:5
 loop-holds : tie.Need-loop-holds Inv-loop μ-loop
 loop-holds c = (omega arith, refl)
 
--- src/detect.rt:68:29
 add-is-fast : tie.Need-add-is-fast Inv-loop μ-loop
 add-is-fast c = search needs
 
--- src/detect.rt:68:27
 mul-is-fast : tie.Need-mul-is-fast Inv-loop μ-loop
 mul-is-fast c = search needs
 
--- src/detect.rt:68:27
 element-copy-out-is-fast : tie.Need-element-copy-out-is-fast Inv-loop μ-loop
 element-copy-out-is-fast c = search needs
 
--- src/detect.rt:68:53
 add-is-fast-2 : tie.Need-add-is-fast-2 Inv-loop μ-loop
 add-is-fast-2 c = search needs
 
--- src/detect.rt:68:46
 mul-is-fast-2 : tie.Need-mul-is-fast-2 Inv-loop μ-loop
 mul-is-fast-2 c = search needs
 
--- src/detect.rt:68:46
 element-copy-out-is-fast-2 : tie.Need-element-copy-out-is-fast-2 Inv-loop μ-loop
 element-copy-out-is-fast-2 c = search needs
 
--- src/detect.rt:68:12
 is-fast-requires : tie.Need-is-fast-requires Inv-loop μ-loop
 is-fast-requires c κs = search needs
 
--- src/detect.rt:69:13
 returns : tie.Need-returns Inv-loop μ-loop
 returns c =
     let l = c .before .before .before .before .before in
     let a = l .before .args in
     sym (some-found (fastCable (a .«n-stations») (a .«dt-ms») (a .y .now) (a .before .now)) (a .«n-cables») (l .loop .k) (c .before .before .before .before .loop-test .taken) (sym (c .before .is-fast .ensures) ∙ c .if1 .taken))
 
--- src/detect.rt:71:9
 add-k : tie.Need-add-k Inv-loop μ-loop
 add-k c = search needs
 
--- src/detect.rt:67:5
 loop-less : tie.Need-loop-less Inv-loop μ-loop
 loop-less c = search needs
 
--- src/detect.rt:67:5
 loop-again : tie.Need-loop-again Inv-loop μ-loop
 loop-again c =
     let l = c .before .before .before .before .before in
     let a = l .before .args in
     (omega arith, some-none (fastCable (a .«n-stations») (a .«dt-ms») (a .y .now) (a .before .now)) (l .loop .k) (l .loop .inv .1) (sym (c .before .is-fast .ensures) ∙ c .if1 .left))
 
--- src/detect.rt:56:1
 returns-2 : tie.Need-returns-2 Inv-loop μ-loop
 returns-2 c =
     let a = c .before .before .args in

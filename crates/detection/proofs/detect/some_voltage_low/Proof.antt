@@ -1,3 +1,4 @@
+-- `some_voltage_low` meets its contract. Assumes nothing.
 use Rattle.detection.specs.Detection.{low, lowStation}
 use Rattle.grid.specs.declared.parts.ConverterStation.{ConverterStation}
 use Rattle.grid.specs.Simulator.{blankStation}
@@ -9,14 +10,11 @@ use Rattle.lists.specs.Scans.{some}
 use lib.ListN.{length}
 use native.Mathlib.Omega.{arith}
 use Prim.Native.Nat.{_-_, _≤_}
-use mathlib.Core.Bool.{Bool, false}
+use mathlib.Core.Bool.{false}
 use mathlib.Core.Path.{_≡_, refl, sym, ap, _∙_}
 use borrow.Author.Needs.{needs}
 use Rattle.detection.proofs.detect.some_voltage_low.Statement.{statement}
 use Rattle.detection.proofs.detect.some_voltage_low.Tie as tie
-use Rattle.detection.proofs.detect.some_voltage_low.Reads as reads
-use Rattle.detection.proofs.detect.some_voltage_low.Lts as lts
-use Rattle.detection.proofs.detect.is_low.Reads as is-low-reads
 
 abbrev Inv-loop : tie.InvT-loop
 Inv-loop y n-stations stations i₀ i = (i ≤ n-stations) × (some i (lowStation stations y) ≡ false)
@@ -34,53 +32,42 @@ same c =
     let i = l .loop .i in
     c .is-low .ensures ∙ ap (λ (s : ConverterStation). low (of (a .y .now) i) (s .«v_dc_rated_kv»)) (getD-within (a .t1) i _ blankStation (omega (arith, long (l .before), l .before .pre)))
 
--- src/detect.rt:88:5
 loop-holds : tie.Need-loop-holds Inv-loop μ-loop
 loop-holds c = (omega arith, refl)
 
--- src/detect.rt:89:17
 mul-s : tie.Need-mul-s Inv-loop μ-loop
 mul-s c = search needs
 
--- src/detect.rt:89:17
 array-copy-out-s : tie.Need-array-copy-out-s Inv-loop μ-loop
 array-copy-out-s c = search needs
 
--- src/detect.rt:90:19
 mul-is-low : tie.Need-mul-is-low Inv-loop μ-loop
 mul-is-low c = search needs
 
--- src/detect.rt:90:19
 element-copy-out-is-low : tie.Need-element-copy-out-is-low Inv-loop μ-loop
 element-copy-out-is-low c = search needs
 
--- src/detect.rt:90:12
 is-low-requires : tie.Need-is-low-requires Inv-loop μ-loop
 is-low-requires c κs = search needs
 
--- src/detect.rt:91:13
 returns : tie.Need-returns Inv-loop μ-loop
 returns c =
     let l = c .before .before .before .before .before in
     let a = l .before .args in
     sym (some-found (lowStation (a .t1) (a .y .now)) (a .«n-stations») (l .loop .i) (c .before .before .before .before .loop-test .taken) (sym (same (c .before)) ∙ c .if1 .taken))
 
--- src/detect.rt:93:9
 add-i : tie.Need-add-i Inv-loop μ-loop
 add-i c = search needs
 
--- src/detect.rt:88:5
 loop-less : tie.Need-loop-less Inv-loop μ-loop
 loop-less c = search needs
 
--- src/detect.rt:88:5
 loop-again : tie.Need-loop-again Inv-loop μ-loop
 loop-again c =
     let l = c .before .before .before .before .before in
     let a = l .before .args in
     (omega arith, some-none (lowStation (a .t1) (a .y .now)) (l .loop .i) (l .loop .inv .1) (sym (same (c .before)) ∙ c .if1 .left))
 
--- src/detect.rt:83:1
 returns-2 : tie.Need-returns-2 Inv-loop μ-loop
 returns-2 c =
     let a = c .before .before .args in

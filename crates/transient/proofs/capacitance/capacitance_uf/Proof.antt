@@ -1,6 +1,6 @@
+-- `capacitance_uf` meets its contract. Assumes nothing.
 use mathlib.Core.Path.{_≡_, refl, sym, _∙_}
 use Rattle.transient.specs.Capacitance.{withCable, capacitanceAt}
-use Rattle.grid.specs.Simulator.{blankCable}
 use Rattle.float64.specs.Constants.{nought}
 use Rattle.lists.proofs.Scanning.{unmapped}
 use Rattle.lists.proofs.Folds.{fold-more}
@@ -12,12 +12,6 @@ use mathlib.Core.List.{foldl}
 use borrow.Author.Needs.{needs}
 use Rattle.transient.proofs.capacitance.capacitance_uf.Statement.{statement}
 use Rattle.transient.proofs.capacitance.capacitance_uf.Tie as tie
-use Rattle.transient.proofs.capacitance.capacitance_uf.Reads as reads
-use Rattle.transient.proofs.capacitance.capacitance_uf.Lts as lts
-use Rattle.float64.proofs.max.Reads as max-reads
-use Rattle.transient.proofs.capacitance.own_capacitance.Reads as own-capacitance-reads
-use Rattle.transient.proofs.capacitance.with_cable.Reads as with-cable-reads
-
 
 abbrev Inv-loop : tie.InvT-loop
 Inv-loop station n-cables cables joined₀ i₀ joined i = (i ≤ n-cables) × (joined ≡ foldl (withCable (station .id)) nought (take i cables))
@@ -28,46 +22,36 @@ abbrev μ-loop : tie.MeasureT-loop
 long : (c : tie.Start Inv-loop μ-loop) → length (c .args .t2) ≡ 64
 long c = search (needs, unmapped)
 
--- src/capacitance.rt:30:5
 loop-holds : tie.Need-loop-holds Inv-loop μ-loop
 loop-holds c = (omega arith, refl)
 
--- src/capacitance.rt:31:17
 mul-c : tie.Need-mul-c Inv-loop μ-loop
 mul-c c = search needs
 
--- src/capacitance.rt:31:17
 array-copy-out-c : tie.Need-array-copy-out-c Inv-loop μ-loop
 array-copy-out-c c = search needs
 
--- src/capacitance.rt:32:9
 with-cable-requires : tie.Need-with-cable-requires Inv-loop μ-loop
 with-cable-requires c κs = search needs
 
--- src/capacitance.rt:33:9
 add-i : tie.Need-add-i Inv-loop μ-loop
 add-i c = search needs
 
--- src/capacitance.rt:30:5
 loop-less : tie.Need-loop-less Inv-loop μ-loop
 loop-less c = search needs
 
--- src/capacitance.rt:30:5
 loop-again : tie.Need-loop-again Inv-loop μ-loop
 loop-again c =
     let l = c .before .before .before in
     let a = l .before .args in
     (omega arith, c .with-cable .ensures ∙ rw (l .loop .inv .1) (sym (fold-more (withCable (a .station .id)) nought _ (a .t2) (l .loop .i) (omega (arith, long (l .before), l .before .pre)))))
 
--- src/capacitance.rt:35:9
 own-capacitance-requires : tie.Need-own-capacitance-requires Inv-loop μ-loop
 own-capacitance-requires c κs = search needs
 
--- src/capacitance.rt:35:5
 max-requires : tie.Need-max-requires Inv-loop μ-loop
 max-requires c κs = search needs
 
--- src/capacitance.rt:24:1
 returns : tie.Need-returns Inv-loop μ-loop
 unfolding capacitanceAt
 returns c =

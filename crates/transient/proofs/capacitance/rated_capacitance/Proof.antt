@@ -1,19 +1,14 @@
+-- `rated_capacitance` meets its contract. Assumes nothing.
 use borrow.Author.Needs.{needs}
 use Rattle.transient.proofs.capacitance.rated_capacitance.Statement.{statement}
 use Rattle.transient.proofs.capacitance.rated_capacitance.Tie as tie
-use Rattle.transient.proofs.capacitance.rated_capacitance.Reads as reads
-use Rattle.transient.proofs.capacitance.rated_capacitance.Lts as lts
-use Rattle.float64.proofs.max.Reads as max-reads
 
--- src/capacitance.rt:86:9
 max-requires : tie.Need-max-requires
 max-requires c κs = search needs
 
--- src/capacitance.rt:87:9
 max-requires-2 : tie.Need-max-requires-2
 max-requires-2 c κs = search needs
 
--- src/capacitance.rt:83:1
 returns : tie.Need-returns
 returns c = rw (c .max2 .ensures, c .before .max .ensures)
 

@@ -1,28 +1,20 @@
+-- `station_capacitance_uf` meets its contract. Assumes nothing.
 use Rattle.lists.proofs.Scanning.{unmapped, take-cut}
 use lib.ListN.{length}
-use native.Mathlib.Omega.{arith}
-use Prim.Native.Nat.{_≤_}
 use mathlib.Core.Path.{_≡_, _∙_}
 use borrow.Author.Needs.{needs}
 use Rattle.transient.proofs.capacitance.station_capacitance_uf.Statement.{statement}
 use Rattle.transient.proofs.capacitance.station_capacitance_uf.Tie as tie
-use Rattle.transient.proofs.capacitance.station_capacitance_uf.Reads as reads
-use Rattle.transient.proofs.capacitance.station_capacitance_uf.Lts as lts
-use Rattle.grid.proofs.present.Reads as present-reads
-use Rattle.transient.proofs.capacitance.capacitance_uf.Reads as capacitance-uf-reads
 
 long : (c : tie.Start) → length (c .args .g .cables) ≡ 64
 long c = search (needs, unmapped)
 
--- src/capacitance.rt:21:37
 present-requires : tie.Need-present-requires
 present-requires c κs = search needs
 
--- src/capacitance.rt:21:5
 capacitance-uf-requires : tie.Need-capacitance-uf-requires
 capacitance-uf-requires c κs = search needs
 
--- src/capacitance.rt:17:1
 returns : tie.Need-returns
 returns c =
     let s = c .before .before .before in

@@ -1,31 +1,24 @@
+-- `with_cable` meets its contract. Assumes nothing.
 use Rattle.lists.proofs.Scanning.{or-second}
 use borrow.Author.Tests.{eq-eqb, ne-eqb}
 use borrow.Author.Needs.{needs}
 use Rattle.transient.proofs.capacitance.with_cable.Statement.{statement}
 use Rattle.transient.proofs.capacitance.with_cable.Tie as tie
-use Rattle.transient.proofs.capacitance.with_cable.Reads as reads
-use Rattle.transient.proofs.capacitance.with_cable.Lts as lts
-use Rattle.transient.proofs.capacitance.half_of.Reads as half-of-reads
 
--- src/capacitance.rt:43:25
 half-of-requires : tie.Need-half-of-requires
 half-of-requires c κs = search needs
 
--- src/capacitance.rt:43:9
 returns : tie.Need-returns
 returns c = rw (c .half-of .ensures, eq-eqb _ _ (c .before .if1 .taken))
 
--- src/capacitance.rt:46:25
 half-of-requires-2 : tie.Need-half-of-requires-2
 half-of-requires-2 c κs = search needs
 
--- src/capacitance.rt:46:9
 returns-2 : tie.Need-returns-2
 returns-2 c =
     let a = c .before .before .before .before .before .args in
     rw (c .half-of2 .ensures, or-second _ _ (eq-eqb (a .c .«to_station») (a .id) (c .before .if2 .taken)))
 
--- src/capacitance.rt:39:1
 returns-3 : tie.Need-returns-3
 returns-3 c = rw (ne-eqb _ _ (c .before .before .if1 .left), ne-eqb _ _ (c .if2 .left))
 

@@ -1,133 +1,103 @@
-use Prim.Native.Nat.{_<_}
+-- `cable_rates` meets its contract. Assumes nothing.
+use Rattle.transient.specs.Network.{end}
+use Prim.Native.Nat.{_<_, ℕ, _-_, _+_, _≤_}
 use Rattle.transient.proofs.Stages.{after}
-use lib.Ieee.{Float}
-use Prim.Native.Nat.{ℕ}
+use lib.Ieee.{Float, nan}
 use native.Mathlib.Nat.{add-assoc}
-use borrow.Author.Tests.{lt-ltb, le-ltb}
+use borrow.Author.Tests.{lt-ltb}
 use Rattle.transient.specs.Derivatives.{cableRate}
 use Rattle.float64.specs.Arithmetic.{of}
 use Rattle.lists.proofs.Fills.{upto, upto-kept, upto-more, upto-over}
 use Rattle.lists.proofs.Counting.{at-end}
-use lib.Ieee.{nan}
 use lib.Dec.{ltb}
 use native.Mathlib.Omega.{arith}
-use Prim.Native.Nat.{_-_, _+_, _≤_}
 use mathlib.Core.Bool.{cond}
 use mathlib.Core.Path.{_≡_, _∙_}
 use borrow.Author.Needs.{needs}
 use Rattle.transient.proofs.derivatives.cable_rates.Statement.{statement}
 use Rattle.transient.proofs.derivatives.cable_rates.Tie as tie
-use Rattle.transient.proofs.derivatives.cable_rates.Reads as reads
-use Rattle.transient.proofs.derivatives.cable_rates.Lts as lts
-use Rattle.grid.proofs.cut_end.Reads as cut-end-reads
-use Rattle.transient.proofs.derivatives.cable_rate.Reads as cable-rate-reads
 
 abbrev Inv-loop : tie.InvT-loop
-Inv-loop dy₀ from to r l y n m k₀ dy k = (k ≤ m) × (dy ≡ upto (n + k) (λ i. cond (ltb i n) (of dy₀ i) (cableRate from to r l n y (i - n))) dy₀)
+Inv-loop dy₀ from to r l y n m k₀ dy k = (k ≤ m) × (dy ≡ upto (n + k) (λ i. cond (ltb i n) (of dy₀ i) (cableRate (end from) (end to) (of r) (of l) n y (i - n))) dy₀)
 
 abbrev μ-loop : tie.MeasureT-loop
 μ-loop dy₀ from to r l y n m k₀ dy k = m - k
 
--- src/derivatives.rt:147:5
 loop-holds : tie.Need-loop-holds Inv-loop μ-loop
 loop-holds c =
     let a = c .args in
-    let f : ℕ → Float = λ i. cond (ltb i (a .n)) (of (a .dy .now) i) (cableRate (a .from .now) (a .to .now) (a .r .now) (a .l .now) (a .n) (a .y .now) (i - a .n)) in
+    let f : ℕ → Float = λ i. cond (ltb i (a .n)) (of (a .dy .now) i) (cableRate (end (a .from .now)) (end (a .to .now)) (of (a .r .now)) (of (a .l .now)) (a .n) (a .y .now) (i - a .n)) in
     (omega arith, upto-kept (a .n + 0) f nan (a .dy .now) (λ i l. let h : i < a .n = omega arith in rw (lt-ltb i (a .n) h)))
 
--- src/derivatives.rt:149:34
 mul-cut-end : tie.Need-mul-cut-end Inv-loop μ-loop
 mul-cut-end c = search needs
 
--- src/derivatives.rt:149:34
 element-copy-out-cut-end : tie.Need-element-copy-out-cut-end Inv-loop μ-loop
 element-copy-out-cut-end c = search needs
 
--- src/derivatives.rt:149:26
 cut-end-requires : tie.Need-cut-end-requires Inv-loop μ-loop
 cut-end-requires c κs = search needs
 
--- src/derivatives.rt:149:24
 mul-dy : tie.Need-mul-dy Inv-loop μ-loop
 mul-dy c = search needs
 
--- src/derivatives.rt:149:24
 element-copy-out-dy : tie.Need-element-copy-out-dy Inv-loop μ-loop
 element-copy-out-dy c = search needs
 
--- src/derivatives.rt:150:32
 mul-cut-end-2 : tie.Need-mul-cut-end-2 Inv-loop μ-loop
 mul-cut-end-2 c = search needs
 
--- src/derivatives.rt:150:32
 element-copy-out-cut-end-2 : tie.Need-element-copy-out-cut-end-2 Inv-loop μ-loop
 element-copy-out-cut-end-2 c = search needs
 
--- src/derivatives.rt:150:24
 cut-end-requires-2 : tie.Need-cut-end-requires-2 Inv-loop μ-loop
 cut-end-requires-2 c κs = search needs
 
--- src/derivatives.rt:150:22
 mul-t28 : tie.Need-mul-t28 Inv-loop μ-loop
 mul-t28 c = search needs
 
--- src/derivatives.rt:150:22
 element-copy-out-t31 : tie.Need-element-copy-out-t31 Inv-loop μ-loop
 element-copy-out-t31 c = search needs
 
--- src/derivatives.rt:151:27
 add-t32 : tie.Need-add-t32 Inv-loop μ-loop
 add-t32 c = search needs
 
--- src/derivatives.rt:151:25
 mul-t33 : tie.Need-mul-t33 Inv-loop μ-loop
 mul-t33 c = search needs
 
--- src/derivatives.rt:151:25
 element-copy-out-t36 : tie.Need-element-copy-out-t36 Inv-loop μ-loop
 element-copy-out-t36 c = search needs
 
--- src/derivatives.rt:152:29
 mul-t37 : tie.Need-mul-t37 Inv-loop μ-loop
 mul-t37 c = search needs
 
--- src/derivatives.rt:152:29
 element-copy-out-t40 : tie.Need-element-copy-out-t40 Inv-loop μ-loop
 element-copy-out-t40 c = search needs
 
--- src/derivatives.rt:153:27
 mul-t41 : tie.Need-mul-t41 Inv-loop μ-loop
 mul-t41 c = search needs
 
--- src/derivatives.rt:153:27
 element-copy-out-t44 : tie.Need-element-copy-out-t44 Inv-loop μ-loop
 element-copy-out-t44 c = search needs
 
--- src/derivatives.rt:155:21
 cable-rate-requires : tie.Need-cable-rate-requires Inv-loop μ-loop
 cable-rate-requires c κs = search needs
 
--- src/derivatives.rt:155:12
 add-dy : tie.Need-add-dy Inv-loop μ-loop
 add-dy c = search needs
 
--- src/derivatives.rt:155:9
 mul-dy-2 : tie.Need-mul-dy-2 Inv-loop μ-loop
 mul-dy-2 c = search needs
 
--- src/derivatives.rt:155:9
 element-write-dy : tie.Need-element-write-dy Inv-loop μ-loop
 element-write-dy c = search needs
 
--- src/derivatives.rt:156:9
 add-k : tie.Need-add-k Inv-loop μ-loop
 add-k c = search needs
 
--- src/derivatives.rt:147:5
 loop-less : tie.Need-loop-less Inv-loop μ-loop
 loop-less c = search needs
 
--- src/derivatives.rt:147:5
 loop-again : tie.Need-loop-again Inv-loop μ-loop
 loop-again c =
     let v = c .before .before .before .before .before in
@@ -135,15 +105,14 @@ loop-again c =
     let l = w .before .before .before in
     let a = l .before .args in
     let k = l .loop .k in
-    let f : ℕ → Float = λ i. cond (ltb i (a .n)) (of (a .dy .now) i) (cableRate (a .from .now) (a .to .now) (a .r .now) (a .l .now) (a .n) (a .y .now) (i - a .n)) in
-    let e : _ ≡ f (a .n + k) = c .cable-rate .ensures ∙ rw (v .cut-end2 .ensures, w .cut-end .ensures) (after (of (a .dy .now)) (cableRate (a .from .now) (a .to .now) (a .r .now) (a .l .now) (a .n) (a .y .now)) (a .n) k) in
+    let f : ℕ → Float = λ i. cond (ltb i (a .n)) (of (a .dy .now) i) (cableRate (end (a .from .now)) (end (a .to .now)) (of (a .r .now)) (of (a .l .now)) (a .n) (a .y .now) (i - a .n)) in
+    let e : _ ≡ f (a .n + k) = c .cable-rate .ensures ∙ rw (v .cut-end2 .ensures, w .cut-end .ensures) (after (of (a .dy .now)) (cableRate (end (a .from .now)) (end (a .to .now)) (of (a .r .now)) (of (a .l .now)) (a .n) (a .y .now)) (a .n) k) in
     (omega arith, rw (← add-assoc) (upto-more f (a .dy .now) (a .n + k) (l .loop .inv .1) e))
 
--- src/derivatives.rt:133:1
 returns : tie.Need-returns Inv-loop μ-loop
 returns c =
     let a = c .before .before .args in
-    let f : ℕ → Float = λ i. cond (ltb i (a .n)) (of (a .dy .now) i) (cableRate (a .from .now) (a .to .now) (a .r .now) (a .l .now) (a .n) (a .y .now) (i - a .n)) in
+    let f : ℕ → Float = λ i. cond (ltb i (a .n)) (of (a .dy .now) i) (cableRate (end (a .from .now)) (end (a .to .now)) (of (a .r .now)) (of (a .l .now)) (a .n) (a .y .now) (i - a .n)) in
     at-end (λ k. upto (a .n + k) f (a .dy .now)) (c .before .loop .inv .0) (c .loop-test .left) (c .before .loop .inv .1)
     ∙ upto-over (a .n + a .m) f nan (a .dy .now)
 

@@ -1,18 +1,14 @@
+-- `drain_ends` meets its contract. Assumes nothing.
 use Rattle.transient.proofs.Ends.{less, drained-at}
 use Rattle.float64.specs.Arithmetic.{_⊖_, of}
 use Rattle.lists.proofs.Places.{once, once-stored, once-past, twice-stored, twice-past, twice-joined}
 use lib.ListN.{set}
-use lib.Ieee.{Float, nan}
-use Prim.Native.Nat.{ℕ}
-use mathlib.Core.List.{List}
+use lib.Ieee.{nan}
 use mathlib.Core.Logic.{⊎-elim}
 use mathlib.Core.Path.{_≡_, sym, ap, _∙_}
 use borrow.Author.Needs.{needs}
 use Rattle.transient.proofs.derivatives.drain_ends.Statement.{statement}
 use Rattle.transient.proofs.derivatives.drain_ends.Tie as tie
-use Rattle.transient.proofs.derivatives.drain_ends.Reads as reads
-use Rattle.transient.proofs.derivatives.drain_ends.Lts as lts
-use Rattle.transient.proofs.derivatives.drain_current.Reads as drain-current-reads
 
 -- at the cable's first end
 first : (j : tie.Joined1) → let a = j .before .args in j .if1 .nets ≡ once (a .n) nan (less (a .n) (a .drain) (a .y .now)) (a .drain .from) (a .nets .now)
@@ -24,63 +20,48 @@ first j =
     (λ w. w .1 ∙ once-past (a .n) nan g (a .drain .from) (a .nets .now) (w .0 .left))
     (j .if1 .came)
 
--- src/derivatives.rt:95:22
 mul-nets : tie.Need-mul-nets
 mul-nets c = search needs
 
--- src/derivatives.rt:95:22
 element-copy-out-nets : tie.Need-element-copy-out-nets
 element-copy-out-nets c = search needs
 
--- src/derivatives.rt:95:56
 mul-drain-current : tie.Need-mul-drain-current
 mul-drain-current c = search needs
 
--- src/derivatives.rt:95:56
 element-copy-out-drain-current : tie.Need-element-copy-out-drain-current
 element-copy-out-drain-current c = search needs
 
--- src/derivatives.rt:95:35
 drain-current-requires : tie.Need-drain-current-requires
 drain-current-requires c κs = search needs
 
--- src/derivatives.rt:95:9
 mul-nets-2 : tie.Need-mul-nets-2
 mul-nets-2 c = search needs
 
--- src/derivatives.rt:95:9
 element-write-nets : tie.Need-element-write-nets
 element-write-nets c = search needs
 
--- src/derivatives.rt:99:24
 mul-nets-3 : tie.Need-mul-nets-3
 mul-nets-3 c = search needs
 
--- src/derivatives.rt:99:24
 element-copy-out-nets-2 : tie.Need-element-copy-out-nets-2
 element-copy-out-nets-2 c = search needs
 
--- src/derivatives.rt:99:56
 mul-drain-current-2 : tie.Need-mul-drain-current-2
 mul-drain-current-2 c = search needs
 
--- src/derivatives.rt:99:56
 element-copy-out-drain-current-2 : tie.Need-element-copy-out-drain-current-2
 element-copy-out-drain-current-2 c = search needs
 
--- src/derivatives.rt:99:35
 drain-current-requires-2 : tie.Need-drain-current-requires-2
 drain-current-requires-2 c κs = search needs
 
--- src/derivatives.rt:99:13
 mul-nets-4 : tie.Need-mul-nets-4
 mul-nets-4 c = search needs
 
--- src/derivatives.rt:99:13
 element-write-nets-2 : tie.Need-element-write-nets-2
 element-write-nets-2 c = search needs
 
--- src/derivatives.rt:88:1
 returns : tie.Need-returns
 returns c =
     let j = c .before .before .before .before .before in
@@ -90,7 +71,6 @@ returns c =
     ∙ twice-stored (a .n) nan g g (a .drain .from) (a .drain .to) (a .nets .now) (first j) (c .before .before .before .before .if2 .taken) (λ e. c .before .before .before .if3 .taken (sym e))
     ∙ drained-at (a .n) (a .drain) (a .y .now) (a .nets .now)
 
--- src/derivatives.rt:88:1
 returns-2 : tie.Need-returns-2
 returns-2 c =
     let j = c .before .before in
@@ -99,7 +79,6 @@ returns-2 c =
     twice-joined (a .n) nan g g (a .drain .from) (a .drain .to) (a .nets .now) (first j) (sym (c .if3 .left))
     ∙ drained-at (a .n) (a .drain) (a .y .now) (a .nets .now)
 
--- src/derivatives.rt:88:1
 returns-3 : tie.Need-returns-3
 returns-3 c =
     let j = c .before in

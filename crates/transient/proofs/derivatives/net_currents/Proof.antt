@@ -1,82 +1,68 @@
+-- `net_currents` meets its contract. Assumes nothing.
+use Rattle.transient.specs.Network.{end}
 use Rattle.transient.proofs.Stages.{nets, nets-none, nets-more}
 use Rattle.transient.specs.Derivatives.{net}
 use Rattle.float64.specs.Constants.{nought}
 use Rattle.lists.proofs.Counting.{at-end}
-use Rattle.lists.specs.Tables.{blank, padded}
+use Rattle.lists.specs.Tables.{padded}
 use native.Mathlib.Omega.{arith}
-use Prim.Native.Nat.{_-_, _+_, _≤_}
+use Prim.Native.Nat.{_-_, _≤_}
 use mathlib.Core.Path.{_≡_, _∙_}
 use borrow.Author.Needs.{needs}
 use Rattle.transient.proofs.derivatives.net_currents.Statement.{statement}
 use Rattle.transient.proofs.derivatives.net_currents.Tie as tie
-use Rattle.transient.proofs.derivatives.net_currents.Reads as reads
-use Rattle.transient.proofs.derivatives.net_currents.Lts as lts
-use Rattle.transient.proofs.derivatives.pass_current.Reads as pass-current-reads
 
 abbrev Inv-loop : tie.InvT-loop
-Inv-loop nets₀ from to y n m k₀ nets k = (k ≤ m) × (nets ≡ padded 32 n (net from to n y k) nought)
+Inv-loop nets₀ from to y n m k₀ nets k = (k ≤ m) × (nets ≡ padded 32 n (net (end from) (end to) n y k) nought)
 
 abbrev μ-loop : tie.MeasureT-loop
 μ-loop nets₀ from to y n m k₀ nets k = m - k
 
--- src/derivatives.rt:66:5
 loop-holds : tie.Need-loop-holds Inv-loop μ-loop
 loop-holds c =
     let a = c .args in
-    (omega arith, rw (c .pre .2) (nets-none (a .from .now) (a .to .now) (a .n) (a .y .now)))
+    (omega arith, rw (c .pre .2) (nets-none (end (a .from .now)) (end (a .to .now)) (a .n) (a .y .now)))
 
--- src/derivatives.rt:67:28
 mul-pass-current : tie.Need-mul-pass-current Inv-loop μ-loop
 mul-pass-current c = search needs
 
--- src/derivatives.rt:67:28
 element-copy-out-pass-current : tie.Need-element-copy-out-pass-current Inv-loop μ-loop
 element-copy-out-pass-current c = search needs
 
--- src/derivatives.rt:67:37
 mul-pass-current-2 : tie.Need-mul-pass-current-2 Inv-loop μ-loop
 mul-pass-current-2 c = search needs
 
--- src/derivatives.rt:67:37
 element-copy-out-pass-current-2 : tie.Need-element-copy-out-pass-current-2 Inv-loop μ-loop
 element-copy-out-pass-current-2 c = search needs
 
--- src/derivatives.rt:67:46
 add-pass-current : tie.Need-add-pass-current Inv-loop μ-loop
 add-pass-current c = search needs
 
--- src/derivatives.rt:67:44
 mul-pass-current-3 : tie.Need-mul-pass-current-3 Inv-loop μ-loop
 mul-pass-current-3 c = search needs
 
--- src/derivatives.rt:67:44
 element-copy-out-pass-current-3 : tie.Need-element-copy-out-pass-current-3 Inv-loop μ-loop
 element-copy-out-pass-current-3 c = search needs
 
--- src/derivatives.rt:67:9
 pass-current-requires : tie.Need-pass-current-requires Inv-loop μ-loop
 pass-current-requires c κs = search needs
 
--- src/derivatives.rt:68:9
 add-k : tie.Need-add-k Inv-loop μ-loop
 add-k c = search needs
 
--- src/derivatives.rt:66:5
 loop-less : tie.Need-loop-less Inv-loop μ-loop
 loop-less c = search needs
 
--- src/derivatives.rt:66:5
 loop-again : tie.Need-loop-again Inv-loop μ-loop
 loop-again c =
     let l = c .before .before .before .before .before .before in
     let a = l .before .args in
-    (omega arith, c .pass-current .ensures ∙ rw (l .loop .inv .1) (nets-more (a .from .now) (a .to .now) (a .n) (a .y .now) (l .loop .k) (l .before .pre .0)))
+    (omega arith, c .pass-current .ensures ∙ rw (l .loop .inv .1) (nets-more (end (a .from .now)) (end (a .to .now)) (a .n) (a .y .now) (l .loop .k) (l .before .pre .0)))
 
--- src/derivatives.rt:54:1
 returns : tie.Need-returns Inv-loop μ-loop
 returns c =
     let a = c .before .before .args in
-    at-end (nets (a .from .now) (a .to .now) (a .n) (a .y .now)) (c .before .loop .inv .0) (c .loop-test .left) (c .before .loop .inv .1)
+    at-end (nets (end (a .from .now)) (end (a .to .now)) (a .n) (a .y .now)) (c .before .loop .inv .0) (c .loop-test .left) (c .before .loop .inv .1)
 
 pub net-currents-spec : {M : Type 1} → statement M
 net-currents-spec =

@@ -1,15 +1,13 @@
+-- `pass_current` meets its contract. Assumes nothing.
 use Rattle.float64.specs.Arithmetic.{_⊕_, _⊖_}
 use Rattle.lists.proofs.Places.{once, once-stored, once-past, twice-stored, twice-past, twice-joined}
 use lib.Ieee.{Float, nan}
 use Prim.Native.Nat.{ℕ}
-use mathlib.Core.List.{List}
 use mathlib.Core.Logic.{⊎-elim}
 use mathlib.Core.Path.{_≡_, sym, _∙_}
 use borrow.Author.Needs.{needs}
 use Rattle.transient.proofs.derivatives.pass_current.Statement.{statement}
 use Rattle.transient.proofs.derivatives.pass_current.Tie as tie
-use Rattle.transient.proofs.derivatives.pass_current.Reads as reads
-use Rattle.transient.proofs.derivatives.pass_current.Lts as lts
 
 abbrev come : Float → ℕ → Float → Float
 come x i s = s ⊕ x
@@ -26,53 +24,42 @@ first j =
     (λ w. w .1 ∙ once-past (a .n) nan (come (a .current)) (a .to) (a .nets .now) (w .0 .left))
     (j .if1 .came)
 
--- src/derivatives.rt:78:20
 mul-nets : tie.Need-mul-nets
 mul-nets c = search needs
 
--- src/derivatives.rt:78:20
 element-copy-out-nets : tie.Need-element-copy-out-nets
 element-copy-out-nets c = search needs
 
--- src/derivatives.rt:78:9
 mul-nets-2 : tie.Need-mul-nets-2
 mul-nets-2 c = search needs
 
--- src/derivatives.rt:78:9
 element-write-nets : tie.Need-element-write-nets
 element-write-nets c = search needs
 
--- src/derivatives.rt:82:26
 mul-nets-3 : tie.Need-mul-nets-3
 mul-nets-3 c = search needs
 
--- src/derivatives.rt:82:26
 element-copy-out-nets-2 : tie.Need-element-copy-out-nets-2
 element-copy-out-nets-2 c = search needs
 
--- src/derivatives.rt:82:13
 mul-nets-4 : tie.Need-mul-nets-4
 mul-nets-4 c = search needs
 
--- src/derivatives.rt:82:13
 element-write-nets-2 : tie.Need-element-write-nets-2
 element-write-nets-2 c = search needs
 
--- src/derivatives.rt:73:1
 returns : tie.Need-returns
 returns c =
     let j = c .before .before .before in
     let a = j .before .args in
     twice-stored (a .n) nan (come (a .current)) (go (a .current)) (a .to) (a .from) (a .nets .now) (first j) (c .before .before .if2 .taken) (λ e. c .before .if3 .taken (sym e))
 
--- src/derivatives.rt:73:1
 returns-2 : tie.Need-returns-2
 returns-2 c =
     let j = c .before .before in
     let a = j .before .args in
     twice-joined (a .n) nan (come (a .current)) (go (a .current)) (a .to) (a .from) (a .nets .now) (first j) (sym (c .if3 .left))
 
--- src/derivatives.rt:73:1
 returns-3 : tie.Need-returns-3
 returns-3 c =
     let j = c .before in

@@ -1,3 +1,4 @@
+-- `station_rates` meets its contract. Assumes nothing.
 use Rattle.float64.specs.Arithmetic.{_⊘_, of}
 use Rattle.float64.specs.Constants.{nought}
 use Rattle.lists.proofs.Fills.{upto, upto-none, upto-more, upto-padded}
@@ -9,9 +10,6 @@ use mathlib.Core.Path.{_≡_, _∙_}
 use borrow.Author.Needs.{needs}
 use Rattle.transient.proofs.derivatives.station_rates.Statement.{statement}
 use Rattle.transient.proofs.derivatives.station_rates.Tie as tie
-use Rattle.transient.proofs.derivatives.station_rates.Reads as reads
-use Rattle.transient.proofs.derivatives.station_rates.Lts as lts
-use Rattle.transient.proofs.derivatives.station_rate.Reads as station-rate-reads
 
 abbrev Inv-loop : tie.InvT-loop
 Inv-loop dy₀ nets c n i₀ dy i = (i ≤ n) × (dy ≡ upto i (λ k. of nets k ⊘ of c k) (blank 96 nought))
@@ -19,53 +17,41 @@ Inv-loop dy₀ nets c n i₀ dy i = (i ≤ n) × (dy ≡ upto i (λ k. of nets k
 abbrev μ-loop : tie.MeasureT-loop
 μ-loop dy₀ nets c n i₀ dy i = n - i
 
--- src/derivatives.rt:116:5
 loop-holds : tie.Need-loop-holds Inv-loop μ-loop
 loop-holds c = (omega arith, rw (c .pre .1) (upto-none _ _))
 
--- src/derivatives.rt:118:29
 mul-dy : tie.Need-mul-dy Inv-loop μ-loop
 mul-dy c = search needs
 
--- src/derivatives.rt:118:29
 element-copy-out-dy : tie.Need-element-copy-out-dy Inv-loop μ-loop
 element-copy-out-dy c = search needs
 
--- src/derivatives.rt:119:28
 mul-t12 : tie.Need-mul-t12 Inv-loop μ-loop
 mul-t12 c = search needs
 
--- src/derivatives.rt:119:28
 element-copy-out-t15 : tie.Need-element-copy-out-t15 Inv-loop μ-loop
 element-copy-out-t15 c = search needs
 
--- src/derivatives.rt:121:17
 station-rate-requires : tie.Need-station-rate-requires Inv-loop μ-loop
 station-rate-requires c κs = search needs
 
--- src/derivatives.rt:121:9
 mul-dy-2 : tie.Need-mul-dy-2 Inv-loop μ-loop
 mul-dy-2 c = search needs
 
--- src/derivatives.rt:121:9
 element-write-dy : tie.Need-element-write-dy Inv-loop μ-loop
 element-write-dy c = search needs
 
--- src/derivatives.rt:122:9
 add-i : tie.Need-add-i Inv-loop μ-loop
 add-i c = search needs
 
--- src/derivatives.rt:116:5
 loop-less : tie.Need-loop-less Inv-loop μ-loop
 loop-less c = search needs
 
--- src/derivatives.rt:116:5
 loop-again : tie.Need-loop-again Inv-loop μ-loop
 loop-again c =
     let l = c .before .before .before .before in
     (omega arith, upto-more _ _ _ (l .loop .inv .1) (c .station-rate .ensures))
 
--- src/derivatives.rt:111:1
 returns : tie.Need-returns Inv-loop μ-loop
 returns c =
     let a = c .before .before .args in

@@ -1,5 +1,5 @@
+-- `drain_of` meets its contract. Assumes nothing.
 use Rattle.transient.specs.Network.{cableCount, drainAt, drainOf}
-use Rattle.transient.specs.declared.network.Drain.{Drain}
 use Rattle.grid.specs.declared.parts.DcCable.{DcCable}
 use Rattle.grid.specs.Simulator.{blankCable}
 use Rattle.lists.proofs.Fills.{getD-within}
@@ -12,32 +12,22 @@ use mathlib.Core.Path.{_≡_, ap, _∙_}
 use borrow.Author.Needs.{needs}
 use Rattle.transient.proofs.network.drain_of.Statement.{statement}
 use Rattle.transient.proofs.network.drain_of.Tie as tie
-use Rattle.transient.proofs.network.drain_of.Reads as reads
-use Rattle.transient.proofs.network.drain_of.Lts as lts
-use Rattle.float64.proofs.max.Reads as max-reads
-use Rattle.grid.proofs.present.Reads as present-reads
-use Rattle.transient.proofs.network.no_drain.Reads as no-drain-reads
 
 long : (c : tie.Start) → length (c .args .g .cables) ≡ 64
 long c = search (needs, unmapped)
 
--- src/network.rt:126:12
 present-requires : tie.Need-present-requires
 present-requires c κs = search needs
 
--- src/network.rt:128:17
 mul-c : tie.Need-mul-c
 mul-c c = search needs
 
--- src/network.rt:128:17
 array-copy-out-c : tie.Need-array-copy-out-c
 array-copy-out-c c = search needs
 
--- src/network.rt:132:25
 max-requires : tie.Need-max-requires
 max-requires c κs = search needs
 
--- src/network.rt:129:9
 returns : tie.Need-returns
 unfolding drainOf
 returns c =
@@ -50,11 +40,9 @@ returns c =
     let same : getD (g .cables) k _ ≡ getD (g .cables) k blankCable = getD-within (g .cables) k _ blankCable (omega (arith, long s)) in
     rw (lt-ltb k _ l, c .max .ensures) (ap (λ (x : DcCable). drainAt x f) same)
 
--- src/network.rt:136:5
 no-drain-requires : tie.Need-no-drain-requires
 no-drain-requires c κs = search needs
 
--- src/network.rt:122:1
 returns-2 : tie.Need-returns-2
 unfolding drainOf
 returns-2 c =

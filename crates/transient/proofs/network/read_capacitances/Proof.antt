@@ -1,3 +1,4 @@
+-- `read_capacitances` meets its contract. Assumes nothing.
 use Rattle.transient.specs.Network.{farads}
 use Rattle.grid.specs.declared.parts.ConverterStation.{ConverterStation}
 use Rattle.grid.specs.Simulator.{blankStation}
@@ -13,10 +14,6 @@ use mathlib.Core.Path.{_≡_, ap, _∙_}
 use borrow.Author.Needs.{needs}
 use Rattle.transient.proofs.network.read_capacitances.Statement.{statement}
 use Rattle.transient.proofs.network.read_capacitances.Tie as tie
-use Rattle.transient.proofs.network.read_capacitances.Reads as reads
-use Rattle.transient.proofs.network.read_capacitances.Lts as lts
-use Rattle.float64.proofs.max.Reads as max-reads
-use Rattle.transient.proofs.capacitance.capacitance_uf.Reads as capacitance-uf-reads
 
 abbrev Inv-loop : tie.InvT-loop
 Inv-loop c₀ n-stations cables n-cables stations i₀ c i = (i ≤ n-stations) × (c ≡ upto i (λ k. farads (take n-cables cables) (getD stations k blankStation)) (blank 32 nought))
@@ -27,43 +24,33 @@ abbrev μ-loop : tie.MeasureT-loop
 long : (c : tie.Start Inv-loop μ-loop) → length (c .args .t2) ≡ 32
 long c = search (needs, unmapped)
 
--- src/network.rt:114:5
 loop-holds : tie.Need-loop-holds Inv-loop μ-loop
 loop-holds c = (omega arith, rw (c .pre .2) (upto-none _ _))
 
--- src/network.rt:115:17
 mul-s : tie.Need-mul-s Inv-loop μ-loop
 mul-s c = search needs
 
--- src/network.rt:115:17
 array-copy-out-s : tie.Need-array-copy-out-s Inv-loop μ-loop
 array-copy-out-s c = search needs
 
--- src/network.rt:116:20
 capacitance-uf-requires : tie.Need-capacitance-uf-requires Inv-loop μ-loop
 capacitance-uf-requires c κs = search needs
 
--- src/network.rt:116:16
 max-requires : tie.Need-max-requires Inv-loop μ-loop
 max-requires c κs = search needs
 
--- src/network.rt:116:9
 mul-c : tie.Need-mul-c Inv-loop μ-loop
 mul-c c = search needs
 
--- src/network.rt:116:9
 element-write-c : tie.Need-element-write-c Inv-loop μ-loop
 element-write-c c = search needs
 
--- src/network.rt:117:9
 add-i : tie.Need-add-i Inv-loop μ-loop
 add-i c = search needs
 
--- src/network.rt:114:5
 loop-less : tie.Need-loop-less Inv-loop μ-loop
 loop-less c = search needs
 
--- src/network.rt:114:5
 loop-again : tie.Need-loop-again Inv-loop μ-loop
 loop-again c =
     let l = c .before .before .before .before in
@@ -72,7 +59,6 @@ loop-again c =
     let same = getD-within (a .t2) i _ blankStation (omega (arith, long (l .before), l .before .pre .0)) in
     (omega arith, upto-more _ _ i (l .loop .inv .1) (c .max .ensures ∙ rw (c .before .capacitance-uf .ensures) (ap (λ (s : ConverterStation). farads (take (a .«n-cables») (a .cables)) s) same)))
 
--- src/network.rt:103:1
 returns : tie.Need-returns Inv-loop μ-loop
 returns c =
     let a = c .before .before .args in

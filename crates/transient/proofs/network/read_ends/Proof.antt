@@ -1,3 +1,4 @@
+-- `read_ends` meets its contract. Assumes nothing.
 use Rattle.grid.specs.declared.parts.DcCable.{DcCable}
 use Rattle.grid.specs.Simulator.{blankCable}
 use Rattle.lists.proofs.Fills.{upto, upto-none, upto-more, upto-padded, getD-within}
@@ -11,8 +12,6 @@ use mathlib.Core.Path.{_≡_, ap, _∙_}
 use borrow.Author.Needs.{needs}
 use Rattle.transient.proofs.network.read_ends.Statement.{statement}
 use Rattle.transient.proofs.network.read_ends.Tie as tie
-use Rattle.transient.proofs.network.read_ends.Reads as reads
-use Rattle.transient.proofs.network.read_ends.Lts as lts
 
 abbrev Inv-loop : tie.InvT-loop
 Inv-loop from₀ to₀ n-cables cables i₀ from to i = (i ≤ n-cables) × (from ≡ upto i (λ k. getD cables k blankCable .«from_station») (blank 64 0)) × (to ≡ upto i (λ k. getD cables k blankCable .«to_station») (blank 64 0))
@@ -23,43 +22,33 @@ abbrev μ-loop : tie.MeasureT-loop
 long : (c : tie.Start Inv-loop μ-loop) → length (c .args .t3) ≡ 64
 long c = search (needs, unmapped)
 
--- src/network.rt:73:5
 loop-holds : tie.Need-loop-holds Inv-loop μ-loop
 loop-holds c = (omega arith, rw (c .pre .1) (upto-none _ _), rw (c .pre .2) (upto-none _ _))
 
--- src/network.rt:74:17
 mul-c : tie.Need-mul-c Inv-loop μ-loop
 mul-c c = search needs
 
--- src/network.rt:74:17
 array-copy-out-c : tie.Need-array-copy-out-c Inv-loop μ-loop
 array-copy-out-c c = search needs
 
--- src/network.rt:75:9
 mul-from : tie.Need-mul-from Inv-loop μ-loop
 mul-from c = search needs
 
--- src/network.rt:75:9
 element-write-from : tie.Need-element-write-from Inv-loop μ-loop
 element-write-from c = search needs
 
--- src/network.rt:76:9
 mul-to : tie.Need-mul-to Inv-loop μ-loop
 mul-to c = search needs
 
--- src/network.rt:76:9
 element-write-to : tie.Need-element-write-to Inv-loop μ-loop
 element-write-to c = search needs
 
--- src/network.rt:77:9
 add-i : tie.Need-add-i Inv-loop μ-loop
 add-i c = search needs
 
--- src/network.rt:73:5
 loop-less : tie.Need-loop-less Inv-loop μ-loop
 loop-less c = search needs
 
--- src/network.rt:73:5
 loop-again : tie.Need-loop-again Inv-loop μ-loop
 loop-again c =
     let l = c .before .before in
@@ -68,7 +57,6 @@ loop-again c =
     let same = getD-within (a .t3) i _ blankCable (omega (arith, long (l .before), l .before .pre .0)) in
     (omega arith, upto-more _ _ i (l .loop .inv .1) (ap (λ (x : DcCable). x .«from_station») same), upto-more _ _ i (l .loop .inv .2) (ap (λ (x : DcCable). x .«to_station») same))
 
--- src/network.rt:68:1
 returns : tie.Need-returns Inv-loop μ-loop
 returns c =
     let a = c .before .before .args in

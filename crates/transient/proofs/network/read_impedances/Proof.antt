@@ -1,3 +1,4 @@
+-- `read_impedances` meets its contract. Assumes nothing.
 use Rattle.transient.specs.Network.{inductance}
 use Rattle.grid.specs.declared.parts.DcCable.{DcCable}
 use Rattle.grid.specs.Cables.{resistance}
@@ -14,10 +15,6 @@ use mathlib.Core.Path.{_≡_, ap, _∙_}
 use borrow.Author.Needs.{needs}
 use Rattle.transient.proofs.network.read_impedances.Statement.{statement}
 use Rattle.transient.proofs.network.read_impedances.Tie as tie
-use Rattle.transient.proofs.network.read_impedances.Reads as reads
-use Rattle.transient.proofs.network.read_impedances.Lts as lts
-use Rattle.grid.proofs.cable_resistance.Reads as cable-resistance-reads
-use Rattle.transient.proofs.network.cable_inductance.Reads as cable-inductance-reads
 
 abbrev Inv-loop : tie.InvT-loop
 Inv-loop r₀ l₀ n-cables cables i₀ r l i = (i ≤ n-cables) × (r ≡ upto i (λ k. resistance (getD cables k blankCable)) (blank 64 nought)) × (l ≡ upto i (λ k. inductance (getD cables k blankCable)) (blank 64 nought))
@@ -28,51 +25,39 @@ abbrev μ-loop : tie.MeasureT-loop
 long : (c : tie.Start Inv-loop μ-loop) → length (c .args .t3) ≡ 64
 long c = search (needs, unmapped)
 
--- src/network.rt:87:5
 loop-holds : tie.Need-loop-holds Inv-loop μ-loop
 loop-holds c = (omega arith, rw (c .pre .1) (upto-none _ _), rw (c .pre .2) (upto-none _ _))
 
--- src/network.rt:88:17
 mul-c : tie.Need-mul-c Inv-loop μ-loop
 mul-c c = search needs
 
--- src/network.rt:88:17
 array-copy-out-c : tie.Need-array-copy-out-c Inv-loop μ-loop
 array-copy-out-c c = search needs
 
--- src/network.rt:89:16
 cable-resistance-requires : tie.Need-cable-resistance-requires Inv-loop μ-loop
 cable-resistance-requires c κs = search needs
 
--- src/network.rt:89:9
 mul-r : tie.Need-mul-r Inv-loop μ-loop
 mul-r c = search needs
 
--- src/network.rt:89:9
 element-write-r : tie.Need-element-write-r Inv-loop μ-loop
 element-write-r c = search needs
 
--- src/network.rt:90:16
 cable-inductance-requires : tie.Need-cable-inductance-requires Inv-loop μ-loop
 cable-inductance-requires c κs = search needs
 
--- src/network.rt:90:9
 mul-l : tie.Need-mul-l Inv-loop μ-loop
 mul-l c = search needs
 
--- src/network.rt:90:9
 element-write-l : tie.Need-element-write-l Inv-loop μ-loop
 element-write-l c = search needs
 
--- src/network.rt:91:9
 add-i : tie.Need-add-i Inv-loop μ-loop
 add-i c = search needs
 
--- src/network.rt:87:5
 loop-less : tie.Need-loop-less Inv-loop μ-loop
 loop-less c = search needs
 
--- src/network.rt:87:5
 loop-again : tie.Need-loop-again Inv-loop μ-loop
 loop-again c =
     let l = c .before .before .before .before in
@@ -81,7 +66,6 @@ loop-again c =
     let same = getD-within (a .t3) i _ blankCable (omega (arith, long (l .before), l .before .pre .0)) in
     (omega arith, upto-more _ _ i (l .loop .inv .1) (c .before .cable-resistance .ensures ∙ ap (λ (x : DcCable). resistance x) same), upto-more _ _ i (l .loop .inv .2) (c .cable-inductance .ensures ∙ ap (λ (x : DcCable). inductance x) same))
 
--- src/network.rt:82:1
 returns : tie.Need-returns Inv-loop μ-loop
 returns c =
     let a = c .before .before .args in

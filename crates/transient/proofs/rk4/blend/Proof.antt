@@ -1,5 +1,6 @@
+-- `blend` meets its contract. Assumes nothing.
 use lib.Ieee.{Float}
-use Prim.Native.Nat.{ℕ}
+use Prim.Native.Nat.{ℕ, _-_, _≤_}
 use Rattle.transient.specs.Rk4.{weighted, blended}
 use Rattle.float64.specs.Arithmetic.{_⊕_, _⊗_, of}
 use Rattle.float64.specs.Constants.{nought}
@@ -7,14 +8,10 @@ use Rattle.lists.proofs.Fills.{upto, upto-none, upto-more, upto-padded}
 use Rattle.lists.proofs.Counting.{at-end}
 use Rattle.lists.specs.Tables.{blank}
 use native.Mathlib.Omega.{arith}
-use Prim.Native.Nat.{_-_, _≤_}
 use mathlib.Core.Path.{_≡_, _∙_}
 use borrow.Author.Needs.{needs}
 use Rattle.transient.proofs.rk4.blend.Statement.{statement}
 use Rattle.transient.proofs.rk4.blend.Tie as tie
-use Rattle.transient.proofs.rk4.blend.Reads as reads
-use Rattle.transient.proofs.rk4.blend.Lts as lts
-use Rattle.transient.proofs.rk4.weigh.Reads as weigh-reads
 
 abbrev Inv-loop : tie.InvT-loop
 Inv-loop out₀ y sixth k1 k2 k3 k4 size i₀ out i = (i ≤ size) × (out ≡ upto i (λ j. of y j ⊕ sixth ⊗ weighted (of k1 j) (of k2 j) (of k3 j) (of k4 j)) (blank 96 nought))
@@ -22,77 +19,59 @@ Inv-loop out₀ y sixth k1 k2 k3 k4 size i₀ out i = (i ≤ size) × (out ≡ u
 abbrev μ-loop : tie.MeasureT-loop
 μ-loop out₀ y sixth k1 k2 k3 k4 size i₀ out i = size - i
 
--- src/rk4.rt:100:5
 loop-holds : tie.Need-loop-holds Inv-loop μ-loop
 loop-holds c = (omega arith, rw (c .pre .1) (upto-none _ _))
 
--- src/rk4.rt:102:17
 mul-out : tie.Need-mul-out Inv-loop μ-loop
 mul-out c = search needs
 
--- src/rk4.rt:102:17
 element-copy-out-out : tie.Need-element-copy-out-out Inv-loop μ-loop
 element-copy-out-out c = search needs
 
--- src/rk4.rt:103:17
 mul-out-2 : tie.Need-mul-out-2 Inv-loop μ-loop
 mul-out-2 c = search needs
 
--- src/rk4.rt:103:17
 element-copy-out-out-2 : tie.Need-element-copy-out-out-2 Inv-loop μ-loop
 element-copy-out-out-2 c = search needs
 
--- src/rk4.rt:104:17
 mul-out-3 : tie.Need-mul-out-3 Inv-loop μ-loop
 mul-out-3 c = search needs
 
--- src/rk4.rt:104:17
 element-copy-out-out-3 : tie.Need-element-copy-out-out-3 Inv-loop μ-loop
 element-copy-out-out-3 c = search needs
 
--- src/rk4.rt:105:17
 mul-out-4 : tie.Need-mul-out-4 Inv-loop μ-loop
 mul-out-4 c = search needs
 
--- src/rk4.rt:105:17
 element-copy-out-out-4 : tie.Need-element-copy-out-out-4 Inv-loop μ-loop
 element-copy-out-out-4 c = search needs
 
--- src/rk4.rt:107:18
 mul-out-5 : tie.Need-mul-out-5 Inv-loop μ-loop
 mul-out-5 c = search needs
 
--- src/rk4.rt:107:18
 element-copy-out-out-5 : tie.Need-element-copy-out-out-5 Inv-loop μ-loop
 element-copy-out-out-5 c = search needs
 
--- src/rk4.rt:107:33
 weigh-requires : tie.Need-weigh-requires Inv-loop μ-loop
 weigh-requires c κs = search needs
 
--- src/rk4.rt:107:9
 mul-out-6 : tie.Need-mul-out-6 Inv-loop μ-loop
 mul-out-6 c = search needs
 
--- src/rk4.rt:107:9
 element-write-out : tie.Need-element-write-out Inv-loop μ-loop
 element-write-out c = search needs
 
--- src/rk4.rt:108:9
 add-i : tie.Need-add-i Inv-loop μ-loop
 add-i c = search needs
 
--- src/rk4.rt:100:5
 loop-less : tie.Need-loop-less Inv-loop μ-loop
 loop-less c = search needs
 
--- src/rk4.rt:100:5
 loop-again : tie.Need-loop-again Inv-loop μ-loop
 loop-again c =
     let l = c .before .before .before .before .before .before .before in
     (omega arith, upto-more _ _ _ (l .loop .inv .1) (rw (c .weigh .ensures)))
 
--- src/rk4.rt:86:1
 returns : tie.Need-returns Inv-loop μ-loop
 unfolding blended
 returns c =

@@ -1,53 +1,41 @@
+-- `combine_stages` meets its contract. Assumes nothing.
 use Rattle.transient.specs.Rk4.{rk4}
 use Rattle.lists.specs.Tables.{blank}
-use native.Mathlib.Omega.{arith}
-use mathlib.Core.Path.{_≡_, refl, _∙_}
+use mathlib.Core.Path.{refl, _∙_}
 use borrow.Author.Needs.{needs}
 use Rattle.transient.proofs.rk4.combine_stages.Statement.{statement}
 use Rattle.transient.proofs.rk4.combine_stages.Tie as tie
-use Rattle.transient.proofs.rk4.combine_stages.Reads as reads
-use Rattle.transient.proofs.rk4.combine_stages.Lts as lts
-use Rattle.transient.proofs.derivatives.state_derivatives.Reads as state-derivatives-reads
-use Rattle.transient.proofs.rk4.blend.Reads as blend-reads
-use Rattle.transient.proofs.rk4.slopes_ahead.Reads as slopes-ahead-reads
 
--- src/rk4.rt:78:5
 state-derivatives-requires : tie.Need-state-derivatives-requires
 unfolding blank
 state-derivatives-requires c κs =
     let s = c .before in
     (s .pre .0, s .pre .1, refl)
 
--- src/rk4.rt:80:5
 slopes-ahead-requires : tie.Need-slopes-ahead-requires
 unfolding blank
 slopes-ahead-requires c κs =
     let s = c .before .before .before .before in
     (s .pre .0, s .pre .1, refl)
 
--- src/rk4.rt:82:5
 slopes-ahead-requires-2 : tie.Need-slopes-ahead-requires-2
 unfolding blank
 slopes-ahead-requires-2 c κs =
     let s = c .before .before .before .before .before .before .before in
     (s .pre .0, s .pre .1, refl)
 
--- src/rk4.rt:84:5
 slopes-ahead-requires-3 : tie.Need-slopes-ahead-requires-3
 unfolding blank
 slopes-ahead-requires-3 c κs =
     let s = c .before .before .before .before .before .before .before .before .before .before in
     (s .pre .0, s .pre .1, refl)
 
--- src/rk4.rt:85:51
 add-blend : tie.Need-add-blend
 add-blend c = search needs
 
--- src/rk4.rt:85:5
 blend-requires : tie.Need-blend-requires
 blend-requires c κs = search needs
 
--- src/rk4.rt:60:1
 returns : tie.Need-returns
 unfolding rk4
 returns c =

@@ -1,3 +1,4 @@
+-- `move_along` meets its contract. Assumes nothing.
 use Rattle.transient.specs.Rk4.{ahead}
 use Rattle.float64.specs.Arithmetic.{_⊕_, _⊗_, of}
 use Rattle.float64.specs.Constants.{nought}
@@ -10,8 +11,6 @@ use mathlib.Core.Path.{_≡_, refl, _∙_}
 use borrow.Author.Needs.{needs}
 use Rattle.transient.proofs.rk4.move_along.Statement.{statement}
 use Rattle.transient.proofs.rk4.move_along.Tie as tie
-use Rattle.transient.proofs.rk4.move_along.Reads as reads
-use Rattle.transient.proofs.rk4.move_along.Lts as lts
 
 abbrev Inv-loop : tie.InvT-loop
 Inv-loop out₀ y h k size i₀ out i = (i ≤ size) × (out ≡ upto i (λ j. of y j ⊕ h ⊗ of k j) (blank 96 nought))
@@ -19,49 +18,38 @@ Inv-loop out₀ y h k size i₀ out i = (i ≤ size) × (out ≡ upto i (λ j. o
 abbrev μ-loop : tie.MeasureT-loop
 μ-loop out₀ y h k size i₀ out i = size - i
 
--- src/rk4.rt:79:5
 loop-holds : tie.Need-loop-holds Inv-loop μ-loop
 loop-holds c = (omega arith, rw (c .pre .1) (upto-none _ _))
 
--- src/rk4.rt:80:18
 mul-out : tie.Need-mul-out Inv-loop μ-loop
 mul-out c = search needs
 
--- src/rk4.rt:80:18
 element-copy-out-out : tie.Need-element-copy-out-out Inv-loop μ-loop
 element-copy-out-out c = search needs
 
--- src/rk4.rt:80:29
 mul-out-2 : tie.Need-mul-out-2 Inv-loop μ-loop
 mul-out-2 c = search needs
 
--- src/rk4.rt:80:29
 element-copy-out-out-2 : tie.Need-element-copy-out-out-2 Inv-loop μ-loop
 element-copy-out-out-2 c = search needs
 
--- src/rk4.rt:80:9
 mul-out-3 : tie.Need-mul-out-3 Inv-loop μ-loop
 mul-out-3 c = search needs
 
--- src/rk4.rt:80:9
 element-write-out : tie.Need-element-write-out Inv-loop μ-loop
 element-write-out c = search needs
 
--- src/rk4.rt:81:9
 add-i : tie.Need-add-i Inv-loop μ-loop
 add-i c = search needs
 
--- src/rk4.rt:79:5
 loop-less : tie.Need-loop-less Inv-loop μ-loop
 loop-less c = search needs
 
--- src/rk4.rt:79:5
 loop-again : tie.Need-loop-again Inv-loop μ-loop
 loop-again c =
     let l = c .before .before .before in
     (omega arith, upto-more _ _ _ (l .loop .inv .1) refl)
 
--- src/rk4.rt:74:1
 returns : tie.Need-returns Inv-loop μ-loop
 unfolding ahead
 returns c =

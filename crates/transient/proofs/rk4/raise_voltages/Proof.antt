@@ -1,3 +1,4 @@
+-- `raise_voltages` meets its contract. Assumes nothing.
 use Rattle.float64.specs.Choice.{maxOf}
 use Rattle.float64.specs.Arithmetic.{of}
 use Rattle.float64.specs.Constants.{nought}
@@ -10,9 +11,6 @@ use mathlib.Core.Path.{_≡_, _∙_}
 use borrow.Author.Needs.{needs}
 use Rattle.transient.proofs.rk4.raise_voltages.Statement.{statement}
 use Rattle.transient.proofs.rk4.raise_voltages.Tie as tie
-use Rattle.transient.proofs.rk4.raise_voltages.Reads as reads
-use Rattle.transient.proofs.rk4.raise_voltages.Lts as lts
-use Rattle.float64.proofs.max.Reads as max-reads
 
 abbrev Inv-loop : tie.InvT-loop
 Inv-loop y₀ n i₀ y i = (i ≤ n) × (y ≡ upto i (λ k. maxOf (of y₀ k) nought) y₀)
@@ -20,46 +18,36 @@ Inv-loop y₀ n i₀ y i = (i ≤ n) × (y ≡ upto i (λ k. maxOf (of y₀ k) n
 abbrev μ-loop : tie.MeasureT-loop
 μ-loop y₀ n i₀ y i = n - i
 
--- src/rk4.rt:124:5
 loop-holds : tie.Need-loop-holds Inv-loop μ-loop
 loop-holds c = (omega arith, upto-none _ _)
 
--- src/rk4.rt:125:20
 mul-max : tie.Need-mul-max Inv-loop μ-loop
 mul-max c = search needs
 
--- src/rk4.rt:125:20
 element-copy-out-max : tie.Need-element-copy-out-max Inv-loop μ-loop
 element-copy-out-max c = search needs
 
--- src/rk4.rt:125:16
 max-requires : tie.Need-max-requires Inv-loop μ-loop
 max-requires c κs = search needs
 
--- src/rk4.rt:125:9
 mul-y : tie.Need-mul-y Inv-loop μ-loop
 mul-y c = search needs
 
--- src/rk4.rt:125:9
 element-write-y : tie.Need-element-write-y Inv-loop μ-loop
 element-write-y c = search needs
 
--- src/rk4.rt:126:9
 add-i : tie.Need-add-i Inv-loop μ-loop
 add-i c = search needs
 
--- src/rk4.rt:124:5
 loop-less : tie.Need-loop-less Inv-loop μ-loop
 loop-less c = search needs
 
--- src/rk4.rt:124:5
 loop-again : tie.Need-loop-again Inv-loop μ-loop
 loop-again c =
     let l = c .before .before .before in
     let a = l .before .args in
     (omega arith, upto-more _ _ _ (l .loop .inv .1) (rw (c .max .ensures, l .loop .inv .1, getD-upto-out (l .loop .i) _ (a .y .now) nan (l .loop .i) (omega arith))))
 
--- src/rk4.rt:119:1
 returns : tie.Need-returns Inv-loop μ-loop
 returns c =
     let a = c .before .before .args in

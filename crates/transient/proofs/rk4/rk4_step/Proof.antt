@@ -1,3 +1,4 @@
+-- `rk4_step` meets its contract. Assumes nothing.
 use Rattle.transient.proofs.Stages.{rk4-raised}
 use Rattle.transient.specs.Rk4.{newState, rk4Step}
 use Rattle.lists.specs.Tables.{blank}
@@ -7,12 +8,6 @@ use mathlib.Core.Path.{_≡_, refl, _∙_}
 use borrow.Author.Needs.{needs}
 use Rattle.transient.proofs.rk4.rk4_step.Statement.{statement}
 use Rattle.transient.proofs.rk4.rk4_step.Tie as tie
-use Rattle.transient.proofs.rk4.rk4_step.Reads as reads
-use Rattle.transient.proofs.rk4.rk4_step.Lts as lts
-use Rattle.grid.proofs.present.Reads as present-reads
-use Rattle.transient.proofs.derivatives.net_currents.Reads as net-currents-reads
-use Rattle.transient.proofs.rk4.combine_stages.Reads as combine-stages-reads
-use Rattle.transient.proofs.rk4.raise_voltages.Reads as raise-voltages-reads
 
 few-stations : (c : tie.After-present) → c .present .result ≤ 32
 few-stations c = omega (arith, c .present .ensures)
@@ -20,35 +15,29 @@ few-stations c = omega (arith, c .present .ensures)
 few-cables : (c : tie.After-present2) → c .present2 .result ≤ 64
 few-cables c = omega (arith, c .present2 .ensures)
 
--- src/rk4.rt:36:9
 present-requires : tie.Need-present-requires
 present-requires c κs = search needs
 
--- src/rk4.rt:37:9
 present-requires-2 : tie.Need-present-requires-2
 present-requires-2 c κs = search needs
 
--- src/rk4.rt:46:5
 combine-stages-requires : tie.Need-combine-stages-requires
 unfolding blank
 combine-stages-requires c κs =
     let p = c .before .before .before .before .before .before .before .before .before .before .before .before .before .before in
     (few-stations (p .before), few-cables p, refl)
 
--- src/rk4.rt:47:5
 raise-voltages-requires : tie.Need-raise-voltages-requires
 raise-voltages-requires c κs =
     let p = c .before .before .before .before .before .before .before .before .before .before .before .before .before .before .before .before in
     few-stations (p .before)
 
--- src/rk4.rt:49:5
 net-currents-requires : tie.Need-net-currents-requires
 unfolding blank
 net-currents-requires c κs =
     let p = c .before .before .before .before .before .before .before .before .before .before .before .before .before .before .before .before .before .before .before .before .before in
     (few-stations (p .before), few-cables p, refl)
 
--- src/rk4.rt:28:1
 returns : tie.Need-returns
 unfolding rk4Step
 returns c =
