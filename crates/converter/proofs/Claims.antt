@@ -1,33 +1,19 @@
 -- The claims of specs/Claims. Assumes nothing.
-use mathlib.Core.Path.{_≡_, refl}
-use mathlib.Core.Bool.{Bool, true, false}
+use mathlib.Core.Path.{_≡_}
+use mathlib.Core.Bool.{true}
 use borrow.Author.Tests.{eq-eqb}
-use lib.Dec.{T}
-use lib.Ieee.{Float, isNan, lt, le, ofBits}
-use Rattle.lists.proofs.Counting.{by-test}
+use lib.Ieee.Bits.{is-true}
+use lib.Ieee.{Float, isNan, le, ofBits}
 use Rattle.float64.specs.Choice.{maxOf}
-use Rattle.float64.proofs.Order.{le-of-not-lt}
+use Rattle.float64.proofs.Interval.{max-at-least}
 use Rattle.rules.specs.Studies.{pointRefusal}
 use Rattle.converter.specs.Constants.{least}
 use Rattle.converter.specs.Vsc.{vscPoint}
 use Rattle.converter.specs.Claims.{PointClaims}
 
-own : (isNan least ≡ false) × (le least least ≡ true)
-unfolding isNan le ofBits
-own = (refl, refl)
-
-is-true : (b : Bool) → T b → b ≡ true
-is-true true t = refl
-is-true false t = absurd t
-
 at-least : (v : Float) → le least (maxOf v least) ≡ true
-unfolding maxOf
-at-least v =
-    by-test (isNan v)
-    (λ n. rw n (own .1))
-    (λ n. by-test (lt v least)
-    (λ l. rw (n, own .0, l) (own .1))
-    (λ l. rw (n, own .0, l) (is-true (le least v) (le-of-not-lt v least (rw n tt) (rw (own .0) tt) l))))
+unfolding isNan ofBits
+at-least v = is-true (le least (maxOf v least)) (max-at-least v least tt)
 
 pub point-claims : PointClaims
 unfolding vscPoint

@@ -13,7 +13,7 @@ use lib.Ieee.Order.{round-mono}
 use lib.Ieee.Positive.{num, den, den-pos, positive, between, mul-mono, le→cross}
 use Rattle.lists.proofs.Counting.{by-test}
 use Rattle.float64.specs.Choice.{maxOf}
-use Rattle.float64.proofs.Choosing.{max-is}
+use Rattle.float64.proofs.Choosing.{max-is, max-holds}
 use Rattle.float64.proofs.Order.{le-of-not-lt, le-refl-float, le-trans-float}
 use Rattle.float64.proofs.Range.{UpTo}
 use Rattle.float64.proofs.SameValue.{round-own}
@@ -33,15 +33,18 @@ in-wide a b c d x h k p = record { from = le-trans-float c a x h (p .from); to =
 pub in-self : (x : Float) → T (le x x) → In x x x
 in-self x h = record { from = h; to = h }
 
--- what is raised to at least b
-pub max-in : (a b hi : Float) → T (not (isNan b)) → T (le a hi) → T (le b hi) → In b hi (maxOf a b)
-max-in a b hi r h k =
+-- what is raised to at least b, a NaN too
+pub max-at-least : (a b : Float) → T (not (isNan b)) → T (le b (maxOf a b))
+max-at-least a b r =
     rw (max-is a b)
     (by-test (ne a a)
-    (λ n. rw n (record { from = le-refl-float b r; to = k }))
+    (λ n. rw n (le-refl-float b r))
     (λ n. by-test (lt a b)
-    (λ l. rw (n, l) (record { from = le-refl-float b r; to = k }))
-    (λ l. rw (n, l) (record { from = le-of-not-lt a b (no-nan a n) r l; to = h }))))
+    (λ l. rw (n, l) (le-refl-float b r))
+    (λ l. rw (n, l) (le-of-not-lt a b (no-nan a n) r l))))
+
+pub max-in : (a b hi : Float) → T (not (isNan b)) → T (le a hi) → T (le b hi) → In b hi (maxOf a b)
+max-in a b hi r h k = record { from = max-at-least a b r; to = max-holds (λ x. T (le x hi)) a b h k }
 
 -- ---- a product and a quotient
 

@@ -1,2 +1,4 @@
 pub mod Ends
 pub mod Stages
+pub mod Claims
+pub mod Tied

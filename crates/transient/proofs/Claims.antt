@@ -1,0 +1,143 @@
+-- The claims of specs/Claims. Assumes nothing.
+use Prim.Native.Nat.{ℕ, zero, suc, _+_, _-_, _≤_, _<_}
+use mathlib.Core.Path.{_≡_, refl}
+use mathlib.Core.Bool.{true, cond}
+use mathlib.Core.Logic.{⊎-elim}
+use mathlib.Core.List.{List}
+use native.Mathlib.Omega.{arith}
+use borrow.Author.Tests.{lt-ltb, le-ltb, eq-eqb, ne-eqb}
+use lib.Dec.{ltb, eqb}
+use lib.Ieee.{Float, nan, le, isNan, ofBits}
+use lib.Ieee.Bits.{is-true}
+use Rattle.lists.specs.Tables.{padded}
+use Rattle.lists.proofs.Counting.{lt-or-le}
+use Rattle.lists.proofs.Fills.{getD-padded, getD-rest, padded-same}
+use Rattle.lists.proofs.Scanning.{or-second}
+use Rattle.float64.specs.Constants.{nought}
+use Rattle.float64.specs.Arithmetic.{of}
+use Rattle.float64.specs.Choice.{maxOf}
+use Rattle.float64.proofs.Interval.{max-at-least}
+use Rattle.grid.specs.declared.simulator.DcSwitchingSimulator.{DcSwitchingSimulator}
+use Rattle.transient.specs.declared.network.Network.{Network}
+use Rattle.transient.specs.declared.network.Drain.{Drain}
+use Rattle.transient.specs.declared.state.DcTransientState.{DcTransientState}
+use Rattle.transient.specs.Network.{stationCount, cableCount, end, networkOf}
+use Rattle.transient.specs.Derivatives.{net, derivative, derivatives}
+use Rattle.transient.specs.Rk4.{blended, rk4, stationsIn, cablesIn, slopes, raised, newState, rk4Step}
+use Rattle.transient.specs.OfGrid.{fromOf, toOf, resistanceOf, inductanceOf, capacitanceOf, gridDerivative}
+use Rattle.transient.specs.Claims.{NetworkClaims, StepClaims, DrainClaims}
+
+-- ---- the tables hold the grid
+
+-- ends that agree up to m
+module _ (from from' to to' : ℕ → ℕ) (n : ℕ) (y : List Float) (i : ℕ) where
+  net-same : (m : ℕ) → ((k : ℕ) → k < m → from k ≡ from' k) → ((k : ℕ) → k < m → to k ≡ to' k) → net from to n y m i ≡ net from' to' n y m i
+  net-same zero f t = refl
+  net-same (suc m) f t = rw (f m (omega arith), t m (omega arith), net-same m (λ k l. f k (omega arith)) (λ k l. t k (omega arith)))
+
+module _ (g : DcSwitchingSimulator) (few-stations : g .«n_stations» ≤ 32) (few-cables : g .«n_cables» ≤ 64) where
+  stations-are : stationCount (g .«n_stations») ≡ g .«n_stations»
+  stations-are = omega arith
+
+  cables-are : cableCount (g .«n_cables») ≡ g .«n_cables»
+  cables-are = omega arith
+
+  from-is : (k : ℕ) → k < g .«n_cables» → end (networkOf g .from) k ≡ fromOf g k
+  unfolding networkOf
+  from-is k l = rw cables-are (getD-padded 64 (g .«n_cables») (fromOf g) 0 0 k l few-cables)
+
+  to-is : (k : ℕ) → k < g .«n_cables» → end (networkOf g .to) k ≡ toOf g k
+  unfolding networkOf
+  to-is k l = rw cables-are (getD-padded 64 (g .«n_cables») (toOf g) 0 0 k l few-cables)
+
+  resistance-is : (k : ℕ) → k < g .«n_cables» → of (networkOf g .«resistance_ohm») k ≡ resistanceOf g k
+  unfolding networkOf
+  resistance-is k l = rw cables-are (getD-padded 64 (g .«n_cables») (resistanceOf g) nought nan k l few-cables)
+
+  inductance-is : (k : ℕ) → k < g .«n_cables» → of (networkOf g .«inductance_h») k ≡ inductanceOf g k
+  unfolding networkOf
+  inductance-is k l = rw cables-are (getD-padded 64 (g .«n_cables») (inductanceOf g) nought nan k l few-cables)
+
+  capacitance-is : (i : ℕ) → i < g .«n_stations» → of (networkOf g .«capacitance_f») i ≡ capacitanceOf g i
+  unfolding networkOf
+  capacitance-is i l = rw stations-are (getD-padded 32 (g .«n_stations») (capacitanceOf g) nought nan i l few-stations)
+
+  stations-in : (d : Drain) → stationsIn (networkOf g) d ≡ g .«n_stations»
+  unfolding networkOf
+  stations-in d = omega arith
+
+  cables-in : (d : Drain) → cablesIn (networkOf g) d ≡ g .«n_cables»
+  unfolding networkOf
+  cables-in d = omega arith
+
+  net-is : (y : List Float) (i : ℕ) → net (end (networkOf g .from)) (end (networkOf g .to)) (g .«n_stations») y (g .«n_cables») i ≡ net (fromOf g) (toOf g) (g .«n_stations») y (g .«n_cables») i
+  net-is y i = net-same (end (networkOf g .from)) (fromOf g) (end (networkOf g .to)) (toOf g) (g .«n_stations») y i (g .«n_cables») from-is to-is
+
+  module _ (d : Drain) (y : List Float) where
+    -- one rate by the tables
+    by-tables : ℕ → Float
+    by-tables = derivative (end (networkOf g .from)) (end (networkOf g .to)) (of (networkOf g .«resistance_ohm»)) (of (networkOf g .«inductance_h»)) (of (networkOf g .«capacitance_f»)) d (g .«n_stations») (g .«n_cables») y
+
+    rate-is : (i : ℕ) → i < g .«n_stations» + g .«n_cables» → by-tables i ≡ gridDerivative g d y i
+    unfolding by-tables
+    rate-is i h =
+        ⊎-elim
+        (λ a. rw (lt-ltb i (g .«n_stations») a, net-is y i, capacitance-is i a))
+        (λ b. let l : i - g .«n_stations» < g .«n_cables» = omega arith in
+        rw (le-ltb i (g .«n_stations») b, from-is (i - g .«n_stations») l, to-is (i - g .«n_stations») l, resistance-is (i - g .«n_stations») l, inductance-is (i - g .«n_stations») l))
+        (lt-or-le i (g .«n_stations»))
+
+    rates-are : slopes (networkOf g) d y ≡ padded 96 (g .«n_stations» + g .«n_cables») (gridDerivative g d y) nought
+    unfolding by-tables derivatives
+    rates-are = rw (stations-in d, cables-in d) (padded-same 96 (g .«n_stations» + g .«n_cables») by-tables (gridDerivative g d y) nought rate-is)
+
+  currents-are : (d : Drain) (s : DcTransientState) (dt : Float) → let r = rk4Step (networkOf g) d s dt in r .«station_currents_ka» ≡ padded 32 (g .«n_stations») (net (fromOf g) (toOf g) (g .«n_stations») (r .y) (g .«n_cables»)) nought
+  unfolding rk4Step
+  currents-are d s dt = rw (stations-in d, cables-in d) (padded-same 32 (g .«n_stations») _ _ nought (λ i l. net-is (newState (networkOf g) d dt (s .y)) i))
+
+pub network-claims : NetworkClaims
+network-claims = record { rates = λ g d y n m. rates-are g n m d y; currents = λ g d s dt n m. currents-are g n m d s dt }
+
+-- ---- the step
+
+module _ (w : Network) (d : Drain) (s : DcTransientState) (dt : Float) where
+  -- the step's numbers before the voltages are raised
+  numbers : List Float
+  numbers = rk4 (stationsIn w d + cablesIn w d) (slopes w d) dt (s .y)
+
+  new-is : (i : ℕ) → i < stationsIn w d + cablesIn w d → of (rk4Step w d s dt .y) i ≡ cond (ltb i (stationsIn w d)) (maxOf (of numbers i) nought) (of numbers i)
+  unfolding rk4Step newState raised numbers
+  new-is i l = getD-padded 96 (stationsIn w d + cablesIn w d) _ nought nan i l (omega arith)
+
+  not-below : (i : ℕ) → i < stationsIn w d → le nought (of (rk4Step w d s dt .y) i) ≡ true
+  unfolding isNan ofBits
+  not-below i l = rw (new-is i (omega arith), lt-ltb i (stationsIn w d) l) (is-true (le nought (maxOf (of numbers i) nought)) (max-at-least (of numbers i) nought tt))
+
+  own-current : (k : ℕ) → k < cablesIn w d → of (rk4Step w d s dt .y) (stationsIn w d + k) ≡ of (rk4 (stationsIn w d + cablesIn w d) (slopes w d) dt (s .y)) (stationsIn w d + k)
+  unfolding numbers
+  own-current k l = rw (new-is (stationsIn w d + k) (omega arith), le-ltb (stationsIn w d + k) (stationsIn w d) (omega arith))
+
+  past-zero : (i : ℕ) → stationsIn w d + cablesIn w d ≤ i → i < 96 → of (rk4Step w d s dt .y) i ≡ nought
+  unfolding rk4Step newState raised
+  past-zero i l h = getD-rest 96 (stationsIn w d + cablesIn w d) _ nought nan i l h
+
+pub step-claims : StepClaims
+unfolding rk4 blended
+step-claims =
+    record {
+      classical = λ size f dt y i l h. getD-padded 96 size _ nought nan i l h;
+      voltages = λ w d s dt i l. not-below w d s dt i l;
+      cable-currents = λ w d s dt k l. own-current w d s dt k l;
+      past = λ w d s dt i l h. past-zero w d s dt i l h;
+    }
+
+-- ---- the drain
+
+pub drain-claims : DrainClaims
+drain-claims =
+    record {
+      first-end = λ d y s. rw (eq-eqb (d .from) (d .from) refl);
+      second-end = λ d y s. rw (or-second (eqb (d .from) (d .to)) (eqb (d .to) (d .to)) (eq-eqb (d .to) (d .to) refl));
+      elsewhere = λ d y i s f t. rw (ne-eqb (d .from) i f, ne-eqb (d .to) i t);
+      without = λ y i s l. rw (ne-eqb 32 i (λ e. omega arith));
+    }

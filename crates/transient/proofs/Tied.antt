@@ -1,0 +1,45 @@
+-- The claims speak of what the code returns: what a caller learns from a contract in src/, as Rattle reads its clauses, gives the claim of the result, and nothing is asked of the caller.
+-- Assumes nothing.
+use Prim.Native.Nat.{ℕ, _+_, _≤_, _<_}
+use mathlib.Core.Path.{_≡_, _∙_}
+use mathlib.Core.Bool.{true}
+use mathlib.Core.List.{List}
+use lib.Ieee.{Float, le}
+use contract.Lifetimes.{Lfts}
+use borrow.Fn.World.{ArgsD, ResD}
+use borrow.Fn.Kinds.{endedOf}
+use denote.Triple.Clauses.{AtExit}
+use Rattle.lists.specs.Tables.{padded}
+use Rattle.float64.specs.Constants.{nought}
+use Rattle.float64.specs.Arithmetic.{of}
+use Rattle.transient.specs.declared.network.Drain.{Drain}
+use Rattle.transient.specs.Rk4.{stationsIn, cablesIn, slopes, rk4}
+use Rattle.transient.specs.OfGrid.{gridDerivative}
+use Rattle.transient.proofs.Claims.{network-claims, step-claims}
+use Rattle.transient.proofs.network.network_of as network-contract
+use Rattle.transient.proofs.network.network_of.Kinds as network-kinds
+use Rattle.transient.proofs.network.network_of.Reads as network-reads
+use Rattle.transient.proofs.rk4.rk4_step as step-contract
+use Rattle.transient.proofs.rk4.rk4_step.Kinds as step-kinds
+use Rattle.transient.proofs.rk4.rk4_step.Reads as step-reads
+
+module _ (κs : Lfts 0) (a : ArgsD network-contract.signature κs) (r : ResD network-contract.signature κs) (e : AtExit (endedOf 0 network-kinds.ps network-kinds.r) κs) where
+  pub network-any : network-reads.Asked κs a
+  network-any = tt
+
+  -- the rates by the network that is returned are the grid's
+  pub network-rates : network-reads.Learnt κs a r e → (d : Drain) (y : List Float) → a .0 .«n_stations» ≤ 32 → a .0 .«n_cables» ≤ 64
+      → slopes r d y ≡ padded 96 (a .0 .«n_stations» + a .0 .«n_cables») (gridDerivative (a .0) d y) nought
+  network-rates h d y n m = rw h (network-claims .rates (a .0) d y n m)
+
+module _ (κs : Lfts 0) (a : ArgsD step-contract.signature κs) (r : ResD step-contract.signature κs) (e : AtExit (endedOf 0 step-kinds.ps step-kinds.r) κs) where
+  pub step-any : step-reads.Asked κs a
+  step-any = tt
+
+  pub step-voltages : step-reads.Learnt κs a r e → (i : ℕ) → i < stationsIn (a .0) (a .1 .0) → le nought (of (r .y) i) ≡ true
+  step-voltages h i l = rw h (step-claims .voltages (a .0) (a .1 .0) (a .1 .1 .0) (a .1 .1 .1 .0) i l)
+
+  pub step-currents : step-reads.Learnt κs a r e → (k : ℕ) → k < cablesIn (a .0) (a .1 .0)
+      → let n = stationsIn (a .0) (a .1 .0) in
+      of (r .y) (n + k) ≡ of (rk4 (n + cablesIn (a .0) (a .1 .0)) (slopes (a .0) (a .1 .0)) (a .1 .1 .1 .0) (a .1 .1 .0 .y)) (n + k)
+  step-currents h k l = rw h (step-claims .cable-currents (a .0) (a .1 .0) (a .1 .1 .0) (a .1 .1 .1 .0) k l)

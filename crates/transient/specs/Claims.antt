@@ -1,0 +1,51 @@
+-- What document 01.3 says of the step in words, and what a reader expects beside the definitions. The proofs are in proofs/Claims.antt.
+use Prim.Native.Nat.{ℕ, _+_, _≤_, _<_}
+use mathlib.Core.Path.{_≡_}
+use mathlib.Core.Bool.{true}
+use mathlib.Core.List.{List}
+use lib.Ieee.{Float, le}
+use Rattle.lists.specs.Tables.{padded}
+use Rattle.float64.specs.Constants.{nought, two}
+use Rattle.float64.specs.Arithmetic.{_⊕_, _⊖_, _⊗_, _⊘_, of}
+use Rattle.grid.specs.declared.simulator.DcSwitchingSimulator.{DcSwitchingSimulator}
+use Rattle.transient.specs.declared.network.Network.{Network}
+use Rattle.transient.specs.declared.network.Drain.{Drain}
+use Rattle.transient.specs.declared.state.DcTransientState.{DcTransientState}
+use Rattle.transient.specs.Constants.{half, six}
+use Rattle.transient.specs.Network.{networkOf, noDrain}
+use Rattle.transient.specs.Derivatives.{net, drainCurrent, drained}
+use Rattle.transient.specs.Rk4.{ahead, rk4, stationsIn, cablesIn, slopes, rk4Step}
+use Rattle.transient.specs.OfGrid.{fromOf, toOf, gridDerivative}
+
+-- what is worked out once for a grid changes no rate and no current
+pub record NetworkClaims : Type 0 where
+  pub rates : (g : DcSwitchingSimulator) (d : Drain) (y : List Float) → g .«n_stations» ≤ 32 → g .«n_cables» ≤ 64
+      → slopes (networkOf g) d y ≡ padded 96 (g .«n_stations» + g .«n_cables») (gridDerivative g d y) nought
+  pub currents : (g : DcSwitchingSimulator) (d : Drain) (s : DcTransientState) (dt : Float) → g .«n_stations» ≤ 32 → g .«n_cables» ≤ 64
+      → let r = rk4Step (networkOf g) d s dt in
+      r .«station_currents_ka» ≡ padded 32 (g .«n_stations») (net (fromOf g) (toOf g) (g .«n_stations») (r .y) (g .«n_cables»)) nought
+
+pub record StepClaims : Type 0 where
+  -- "Classical RK4, 1/6 (k1+2k2+2k3+k4)", each number of the state, whatever the rates f
+  pub classical : (size : ℕ) (f : List Float → List Float) (dt : Float) (y : List Float) (i : ℕ) → i < size → size ≤ 96
+      → let k1 = f y in
+      let k2 = f (ahead size y (half ⊗ dt) k1) in
+      let k3 = f (ahead size y (half ⊗ dt) k2) in
+      let k4 = f (ahead size y dt k3) in
+      of (rk4 size f dt y) i ≡ of y i ⊕ (dt ⊘ six) ⊗ (of k1 i ⊕ two ⊗ of k2 i ⊕ two ⊗ of k3 i ⊕ of k4 i)
+  -- "New voltages are at least 0", of any doubles, NaN among them
+  pub voltages : (w : Network) (d : Drain) (s : DcTransientState) (dt : Float) (i : ℕ) → i < stationsIn w d → le nought (of (rk4Step w d s dt .y) i) ≡ true
+  -- cable currents are the step's own
+  pub cable-currents : (w : Network) (d : Drain) (s : DcTransientState) (dt : Float) (k : ℕ) → k < cablesIn w d
+      → let n = stationsIn w d in
+      of (rk4Step w d s dt .y) (n + k) ≡ of (rk4 (n + cablesIn w d) (slopes w d) dt (s .y)) (n + k)
+  -- what stands past the counts is zero
+  pub past : (w : Network) (d : Drain) (s : DcTransientState) (dt : Float) (i : ℕ) → stationsIn w d + cablesIn w d ≤ i → i < 96 → of (rk4Step w d s dt .y) i ≡ nought
+
+-- "The drain applies to both ends of the faulted cable, scaled by the fraction", and to no other station
+pub record DrainClaims : Type 0 where
+  pub first-end : (d : Drain) (y : List Float) (s : Float) → drained d y (d .from) s ≡ s ⊖ drainCurrent d (of y (d .from))
+  pub second-end : (d : Drain) (y : List Float) (s : Float) → drained d y (d .to) s ≡ s ⊖ drainCurrent d (of y (d .to))
+  pub elsewhere : (d : Drain) (y : List Float) (i : ℕ) (s : Float) → (d .from ≡ i → ⊥) → (d .to ≡ i → ⊥) → drained d y i s ≡ s
+  -- without a fault none
+  pub without : (y : List Float) (i : ℕ) (s : Float) → i < 32 → drained noDrain y i s ≡ s
