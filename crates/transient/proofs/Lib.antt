@@ -2,3 +2,4 @@ pub mod Ends
 pub mod Stages
 pub mod Claims
 pub mod Tied
+mod Controls
