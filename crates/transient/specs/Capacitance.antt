@@ -40,6 +40,13 @@ halfOf c = c .«c_per_km» ⊗ c .«length_km» ⊗ half
 abbrev pub withCable : ℕ → Float → DcCable → Float
 withCable id sum c = cond (eqb (c .«from_station») id || eqb (c .«to_station») id) (sum ⊕ halfOf c) sum
 
--- the converter's own and its cables' halves, added up from zero in the cables' order; at least 0.01
-unfoldable pub capacitanceAt : List DcCable → ConverterStation → Float
-capacitanceAt cables s = maxOf (ownCapacitance s ⊕ foldl (withCable (s .id)) nought cables) leastMicrofarads
+-- its cables' halves, added up from zero in the cables' order
+unfoldable pub joinedCapacitance : ℕ → List DcCable → Float
+joinedCapacitance id cables = foldl (withCable id) nought cables
+
+-- the converter's own and these; at least 0.01
+abbrev pub capacitanceWith : ConverterStation → Float → Float
+capacitanceWith s joined = maxOf (ownCapacitance s ⊕ joined) leastMicrofarads
+
+abbrev pub capacitanceAt : List DcCable → ConverterStation → Float
+capacitanceAt cables s = capacitanceWith s (joinedCapacitance (s .id) cables)

@@ -3,7 +3,7 @@ ghost use mathlib.Core.Path.{_≡_};
 ghost use lib.ListN.{take};
 ghost use Prim.Native.Nat.{_≤_};
 ghost use Rattle.grid.specs.Simulator.{cablesOf};
-ghost use Rattle.transient.specs.Capacitance.{ownCapacitance, mmcCapacitance, ratedCapacitance, halfOf, withCable, capacitanceAt};
+ghost use Rattle.transient.specs.Capacitance.{ownCapacitance, mmcCapacitance, ratedCapacitance, halfOf, withCable, joinedCapacitance, capacitanceWith, capacitanceAt};
 use float64::max;
 use grid::ConverterStation;
 use grid::ConverterTopology;
@@ -18,21 +18,29 @@ pub fn station_capacitance_uf(g: DcSwitchingSimulator, station: ConverterStation
     ensures { λ r. ⌜ r ≡ capacitanceAt (cablesOf g) station ⌝ }
 {
     let cables = g.cables;
-    capacitance_uf(station, cables, present(g.n_cables, 64))
+    let joined = joined_capacitance(station.id, cables, present(g.n_cables, 64));
+    capacitance_with(station, joined)
 }
 
-pub fn capacitance_uf(station: ConverterStation, cables: [DcCable; 64], n_cables: usize) -> f64
+pub fn capacitance_with(station: ConverterStation, joined: f64) -> f64
+    ensures { λ r. ⌜ r ≡ capacitanceWith station joined ⌝ }
+{
+    max(own_capacitance(station) + joined, 0.01)
+}
+
+// Of the cables at a station, by its id.
+pub fn joined_capacitance(id: u64, cables: [DcCable; 64], n_cables: usize) -> f64
     requires { ⌜ «n_cables» ≤ 64 ⌝ }
-    ensures { λ r. ⌜ r ≡ capacitanceAt (take «n_cables» cables) station ⌝ }
+    ensures { λ r. ⌜ r ≡ joinedCapacitance id (take «n_cables» cables) ⌝ }
 {
     let mut joined = 0.0;
     let mut i = 0;
     while i < n_cables {
         let c = cables[i];
-        joined = with_cable(station.id, joined, c);
+        joined = with_cable(id, joined, c);
         i += 1;
     }
-    max(own_capacitance(station) + joined, 0.01)
+    joined
 }
 
 // A cable's end is matched against the station's id.

@@ -6,7 +6,8 @@ ghost use Rattle.lists.specs.Tables.{blank};
 ghost use Rattle.float64.specs.Constants.{nought};
 ghost use Rattle.grid.specs.Cables.{resistance};
 ghost use Rattle.transient.specs.Network.{inductance, farads, cableTable, endTable, stationTable, networkOf, drainOf, noDrain};
-use crate::capacitance::capacitance_uf;
+use crate::capacitance::capacitance_with;
+use crate::capacitance::joined_capacitance;
 use float64::max;
 use grid::ConverterStation;
 use grid::DcCable;
@@ -113,7 +114,8 @@ fn read_capacitances(
     let mut i = 0;
     while i < n_stations {
         let s = stations[i];
-        c[i] = max(capacitance_uf(s, cables, n_cables) * 0.000001, 0.000000000001);
+        let joined = joined_capacitance(s.id, cables, n_cables);
+        c[i] = max(capacitance_with(s, joined) * 0.000001, 0.000000000001);
         i += 1;
     }
 }

@@ -12,14 +12,20 @@ long c = search (needs, unmapped)
 present-requires : tie.Need-present-requires
 present-requires c κs = search needs
 
-capacitance-uf-requires : tie.Need-capacitance-uf-requires
-capacitance-uf-requires c κs = search needs
+joined-capacitance-requires : tie.Need-joined-capacitance-requires
+joined-capacitance-requires c κs = search needs
+
+capacitance-with-requires : tie.Need-capacitance-with-requires
+capacitance-with-requires c κs = search needs
 
 returns : tie.Need-returns
 returns c =
-    let s = c .before .before .before in
+    let j = c .before in
+    let s = j .before .before .before in
     let g = s .args .g in
-    c .capacitance-uf .ensures ∙ rw (take-cut (g .cables) (g .«n_cables») 64 _ (long s) (c .before .present .ensures))
+    c .capacitance-with .ensures ∙ rw (j .joined-capacitance .ensures, take-cut (g .cables) (g .«n_cables») 64 _ (long s) (j .before .present .ensures))
 
 pub station-capacitance-uf-spec : {M : Type 1} → statement M
-station-capacitance-uf-spec = tie.close (tie.spec present-requires capacitance-uf-requires returns)
+station-capacitance-uf-spec =
+    tie.close
+    (tie.spec present-requires joined-capacitance-requires capacitance-with-requires returns)

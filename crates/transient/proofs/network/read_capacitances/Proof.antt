@@ -33,8 +33,11 @@ mul-s c = search needs
 array-copy-out-s : tie.Need-array-copy-out-s Inv-loop μ-loop
 array-copy-out-s c = search needs
 
-capacitance-uf-requires : tie.Need-capacitance-uf-requires Inv-loop μ-loop
-capacitance-uf-requires c κs = search needs
+joined-capacitance-requires : tie.Need-joined-capacitance-requires Inv-loop μ-loop
+joined-capacitance-requires c κs = search needs
+
+capacitance-with-requires : tie.Need-capacitance-with-requires Inv-loop μ-loop
+capacitance-with-requires c κs = search needs
 
 max-requires : tie.Need-max-requires Inv-loop μ-loop
 max-requires c κs = search needs
@@ -53,11 +56,12 @@ loop-less c = search needs
 
 loop-again : tie.Need-loop-again Inv-loop μ-loop
 loop-again c =
-    let l = c .before .before .before .before in
+    let j = c .before .before in
+    let l = j .before .before .before in
     let a = l .before .args in
     let i = l .loop .i in
     let same = getD-within (a .t2) i _ blankStation (omega (arith, long (l .before), l .before .pre .0)) in
-    (omega arith, upto-more _ _ i (l .loop .inv .1) (c .max .ensures ∙ rw (c .before .capacitance-uf .ensures) (ap (λ (s : ConverterStation). farads (take (a .«n-cables») (a .cables)) s) same)))
+    (omega arith, upto-more _ _ i (l .loop .inv .1) (c .max .ensures ∙ rw (c .before .capacitance-with .ensures, j .joined-capacitance .ensures) (ap (λ (s : ConverterStation). farads (take (a .«n-cables») (a .cables)) s) same)))
 
 returns : tie.Need-returns Inv-loop μ-loop
 returns c =
@@ -74,7 +78,8 @@ read-capacitances-spec =
     loop-holds
     mul-s
     array-copy-out-s
-    capacitance-uf-requires
+    joined-capacitance-requires
+    capacitance-with-requires
     max-requires
     mul-c
     element-write-c

@@ -1,6 +1,6 @@
--- `capacitance_uf` meets its contract. Assumes nothing.
+-- `joined_capacitance` meets its contract. Assumes nothing.
 use mathlib.Core.Path.{_≡_, refl, sym, _∙_}
-use Rattle.transient.specs.Capacitance.{withCable, capacitanceAt}
+use Rattle.transient.specs.Capacitance.{withCable, joinedCapacitance}
 use Rattle.float64.specs.Constants.{nought}
 use Rattle.lists.proofs.Scanning.{unmapped}
 use Rattle.lists.proofs.Folds.{fold-more}
@@ -10,14 +10,14 @@ use native.Mathlib.Omega.{arith}
 use Prim.Native.Nat.{_-_, _≤_}
 use mathlib.Core.List.{foldl}
 use borrow.Author.Needs.{needs}
-use Rattle.transient.proofs.capacitance.capacitance_uf.Statement.{statement}
-use Rattle.transient.proofs.capacitance.capacitance_uf.Tie as tie
+use Rattle.transient.proofs.capacitance.joined_capacitance.Statement.{statement}
+use Rattle.transient.proofs.capacitance.joined_capacitance.Tie as tie
 
 abbrev Inv-loop : tie.InvT-loop
-Inv-loop station n-cables cables joined₀ i₀ joined i = (i ≤ n-cables) × (joined ≡ foldl (withCable (station .id)) nought (take i cables))
+Inv-loop id n-cables cables joined₀ i₀ joined i = (i ≤ n-cables) × (joined ≡ foldl (withCable id) nought (take i cables))
 
 abbrev μ-loop : tie.MeasureT-loop
-μ-loop station n-cables cables joined₀ i₀ joined i = n-cables - i
+μ-loop id n-cables cables joined₀ i₀ joined i = n-cables - i
 
 long : (c : tie.Start Inv-loop μ-loop) → length (c .args .t2) ≡ 64
 long c = search (needs, unmapped)
@@ -44,23 +44,16 @@ loop-again : tie.Need-loop-again Inv-loop μ-loop
 loop-again c =
     let l = c .before .before .before in
     let a = l .before .args in
-    (omega arith, c .with-cable .ensures ∙ rw (l .loop .inv .1) (sym (fold-more (withCable (a .station .id)) nought _ (a .t2) (l .loop .i) (omega (arith, long (l .before), l .before .pre)))))
-
-own-capacitance-requires : tie.Need-own-capacitance-requires Inv-loop μ-loop
-own-capacitance-requires c κs = search needs
-
-max-requires : tie.Need-max-requires Inv-loop μ-loop
-max-requires c κs = search needs
+    (omega arith, c .with-cable .ensures ∙ rw (l .loop .inv .1) (sym (fold-more (withCable (a .id)) nought _ (a .t2) (l .loop .i) (omega (arith, long (l .before), l .before .pre)))))
 
 returns : tie.Need-returns Inv-loop μ-loop
-unfolding capacitanceAt
+unfolding joinedCapacitance
 returns c =
-    let l = c .before .before .before in
-    let a = l .before .args in
-    rw (c .max .ensures, c .before .own-capacitance .ensures, at-end (λ k. foldl (withCable (a .station .id)) nought (take k (a .t2))) (l .loop .inv .0) (c .before .before .loop-test .left) (l .loop .inv .1))
+    let a = c .before .before .args in
+    at-end (λ k. foldl (withCable (a .id)) nought (take k (a .t2))) (c .before .loop .inv .0) (c .loop-test .left) (c .before .loop .inv .1)
 
-pub capacitance-uf-spec : {M : Type 1} → statement M
-capacitance-uf-spec =
+pub joined-capacitance-spec : {M : Type 1} → statement M
+joined-capacitance-spec =
     tie.close
     (tie.spec
     Inv-loop
@@ -72,6 +65,4 @@ capacitance-uf-spec =
     add-i
     loop-less
     loop-again
-    own-capacitance-requires
-    max-requires
     returns)
