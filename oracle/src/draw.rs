@@ -1,10 +1,13 @@
 //! Jobs drawn at random, the same ones from the same seed.
 
+mod circuits;
+mod detections;
 mod flows;
 mod grids;
 mod points;
+mod steps;
 
-use crate::jobs::{is_point, FLOATS, FLOW};
+use crate::jobs::{is_point, CIRCUIT, DETECTION, FLOATS, FLOW, STEP};
 use crate::plan::End;
 use std::f64::consts::PI;
 
@@ -59,6 +62,9 @@ pub fn job(number: u64, random: &mut Random) -> Drawn {
         },
         // One in four has values at the ends of what the rules accept.
         FLOW if random.below(4) > 0 => flows::job(random),
+        DETECTION if random.below(4) > 0 => detections::job(random),
+        STEP if random.below(4) > 0 => steps::job(random),
+        CIRCUIT if random.below(4) > 0 => circuits::job(random),
         _ if is_point(number) && random.below(4) > 0 => points::job(number, random),
         _ => grids::job(number, random),
     }
@@ -95,6 +101,27 @@ fn some_exponent(random: &mut Random) -> f64 {
     let exponent = 1023 - 64 + random.below(128);
     let signed = random.below(2) << 63 | exponent << 52;
     f64::from_bits(signed | random.bits() >> 12)
+}
+
+/// The bits of any double, of which every form is likely: NaNs of all patterns, infinities, zeros, subnormals, huge ones.
+fn any_form(random: &mut Random) -> u64 {
+    let sign = random.below(2) << 63;
+    match random.below(8) {
+        0 => f64::NAN.to_bits() | random.bits() >> 13 | sign,
+        // A NaN that signals, which no operation gives.
+        1 => f64::INFINITY.to_bits() | random.pick(&[1, 1 << 50]) | sign,
+        2 => f64::INFINITY.to_bits() | sign,
+        3 => sign,
+        4 => random.bits() >> 12 >> random.below(52) | sign,
+        5 => (f64::MAX / (1u64 << random.below(40)) as f64).to_bits() | sign,
+        6 => random.bits(),
+        _ => some_exponent(random).to_bits(),
+    }
+}
+
+/// Any magnitude is as likely as any other.
+fn power_of_ten(low: f64, high: f64, random: &mut Random) -> f64 {
+    f64::powf(10.0, low + (high - low) * random.fraction())
 }
 
 /// A whole number of at most 53 binary digits, at times a square.

@@ -3,7 +3,7 @@
 
 use crate::dc_switching::{
     ConverterStation, ConverterTopology, DcBreaker, DcBreakerType, DcCable, DcFaultEvent,
-    DcFaultType, DcSwitchingSimulator,
+    DcFaultType, DcSwitchingSimulator, DcTransientState,
 };
 use crate::numbers::double;
 
@@ -134,6 +134,27 @@ pub fn fault(input: &mut impl Iterator<Item = u64>) -> Option<DcFaultEvent> {
         fault_resistance: double(input.next()?),
         inception_time_ms: double(input.next()?),
     })
+}
+
+/// Station voltages and cable currents, as many as the grid has parts; what else a state has is at rest.
+pub fn state(
+    grid: &Grid,
+    time_ms: f64,
+    input: &mut impl Iterator<Item = u64>,
+) -> Option<DcTransientState> {
+    let stations = grid.simulator.stations.len();
+    Some(DcTransientState {
+        time_ms,
+        station_voltages_kv: doubles(stations, input)?,
+        station_currents_ka: vec![0.0; stations],
+        cable_currents_ka: doubles(grid.simulator.cables.len(), input)?,
+        fault_current_ka: 0.0,
+        breaker_states: vec![true; grid.simulator.breakers.len()],
+    })
+}
+
+fn doubles(n: usize, input: &mut impl Iterator<Item = u64>) -> Option<Vec<f64>> {
+    (0..n).map(|_| input.next().map(double)).collect()
 }
 
 pub fn order(input: &mut impl Iterator<Item = u64>) -> Option<SweepOrder> {

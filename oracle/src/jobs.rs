@@ -1,5 +1,7 @@
 //! The jobs of the replay bench, answered by the published Rust and by document 01's rules.
 
+mod transients;
+
 use crate::dc_switching::{
     clearing_time_ms, fastest_clearing_ms, record_interval, recorded_steps, time_step_ms,
     total_steps, ConverterOperatingPoint, DcSwitchingSimulator,
@@ -19,9 +21,12 @@ pub const SWEEP: u64 = 7;
 pub const FLOATS: u64 = 8;
 /// The one job on a grid that refuses none.
 pub const TIMES: u64 = 12;
+// What a fault run is made of, refused as one.
+pub const STEP: u64 = 13;
+pub const CIRCUIT: u64 = 14;
 
 /// The jobs on a grid or a part of one.
-pub const GRID_JOBS: [(u64, &str); 8] = [
+pub const GRID_JOBS: [(u64, &str); 10] = [
     (FLOW, "flow"),
     (LCC_POINT, "LCC point"),
     (VSC_POINT, "VSC point"),
@@ -30,11 +35,18 @@ pub const GRID_JOBS: [(u64, &str); 8] = [
     (DETECTION, "detection"),
     (SWEEP, "sweep"),
     (TIMES, "times"),
+    (STEP, "RK4 step"),
+    (CIRCUIT, "fault circuit"),
 ];
 
 /// Whether a job is an operating point, which has a station and no grid.
 pub fn is_point(job: u64) -> bool {
     matches!(job, LCC_POINT | VSC_POINT)
+}
+
+/// Whether a job has a fault.
+pub fn has_fault(job: u64) -> bool {
+    matches!(job, FAULT_RUN | STEP | CIRCUIT)
 }
 
 /// Answers the next job, or nothing more where the input ends, inside the job too, or no such job is known.
@@ -45,10 +57,12 @@ pub fn answer(input: &mut impl Iterator<Item = u64>, output: &mut Vec<u64>) -> O
         VSC_POINT => vsc_point(input, output)?,
         FAULT_RUN => output.push(fault_run(input)?),
         SWITCHING_RUN => output.push(switching_run(input)?),
-        DETECTION => output.push(detection(input)?),
+        DETECTION => transients::detection(input, output)?,
         SWEEP => output.push(sweep(input)?),
         FLOATS => floats(input, output)?,
         TIMES => times(&grids::grid(input)?, output),
+        STEP => transients::step(input, output)?,
+        CIRCUIT => transients::circuit(input, output)?,
         _ => return None,
     }
     Some(())
@@ -141,13 +155,6 @@ fn switching_run(input: &mut impl Iterator<Item = u64>) -> Option<u64> {
     let (_breaker, _open) = (input.next()?, input.next()?);
     calls(input)?;
     Some(rules::switching(&grid))
-}
-
-fn detection(input: &mut impl Iterator<Item = u64>) -> Option<u64> {
-    let grid = grids::grid(input)?;
-    let state = 1 + grid.n_stations.min(STATIONS) + grid.n_cables.min(CABLES);
-    skip(input, 2 * state)?;
-    Some(rules::detection(&grid))
 }
 
 fn sweep(input: &mut impl Iterator<Item = u64>) -> Option<u64> {
@@ -389,6 +396,9 @@ mod tests {
             let accepted = match job[0] {
                 FLOW => 4 + POINT as u64 * job[3] + job[4],
                 number if is_point(number) => 1 + POINT as u64,
+                DETECTION => 2,
+                STEP => 1 + 2 * job[3] + job[4],
+                CIRCUIT => 8,
                 FLOATS => continue,
                 TIMES => 7 + job[5].min(BREAKERS),
                 _ => 1,
@@ -415,9 +425,12 @@ mod tests {
         topology.stations[0][0] = 4;
         let mut kind = Plan::small(FLOW);
         kind.breakers[0][2] = 3;
-        let mut fault = Plan::small(FAULT_RUN);
-        fault.event[0] = 3;
-        for plan in [topology, kind, fault] {
+        let faults = [FAULT_RUN, STEP, CIRCUIT].map(|job| {
+            let mut plan = Plan::small(job);
+            plan.event[0] = 3;
+            plan
+        });
+        for plan in [topology, kind].into_iter().chain(faults) {
             assert!(answered(&plan.numbers()).is_none());
         }
     }

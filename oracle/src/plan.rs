@@ -2,7 +2,8 @@
 
 use crate::grids::{CABLES, STATIONS};
 use crate::jobs::{
-    is_point, DETECTION, FAULT_RUN, FLOW, LCC_POINT, SWEEP, SWITCHING_RUN, TIMES, VSC_POINT,
+    has_fault, is_point, CIRCUIT, DETECTION, FAULT_RUN, FLOW, LCC_POINT, STEP, SWEEP,
+    SWITCHING_RUN, TIMES, VSC_POINT,
 };
 use crate::numbers::NAN;
 use crate::rules::{self, Range};
@@ -19,8 +20,10 @@ pub struct Plan {
     pub breakers: Vec<[u64; 7]>,
     /// A fault, or a sweep order.
     pub event: Vec<u64>,
-    /// What no rule looks at: a current, power and voltage, a breaker number, calls. The states of a detection follow from the counts.
+    /// What no rule looks at: a current, power and voltage, a breaker number, calls, whether a fault is handed to a step, times.
     pub rest: Vec<u64>,
+    /// The states of a detection, or that of a step; where there is none here, 0, 1, 2 and so on, as many as the counts ask for.
+    pub states: Vec<u64>,
 }
 
 /// Where a field stands.
@@ -145,7 +148,7 @@ impl Plan {
             cables: vec![[0; 7]],
             breakers: vec![[0; 7]],
             event: match job {
-                FAULT_RUN => vec![0; 5],
+                _ if has_fault(job) => vec![0; 5],
                 SWEEP => vec![0, 0, 0, rules::LAST_TENTH],
                 _ => Vec::new(),
             },
@@ -154,8 +157,11 @@ impl Plan {
                 LCC_POINT | FAULT_RUN | SWEEP => vec![0],
                 VSC_POINT => vec![0, 100f64.to_bits()],
                 SWITCHING_RUN => vec![0, 1, 0],
+                STEP => vec![1, 1e-6f64.to_bits()],
+                CIRCUIT => vec![1f64.to_bits(), 1f64.to_bits(), 0],
                 _ => panic!("job {job} has no grid"),
             },
+            states: Vec::new(),
         };
         plan.stations[0][3] = 100f64.to_bits();
         plan
@@ -175,12 +181,24 @@ impl Plan {
         }
         numbers.extend(&self.event);
         numbers.extend(&self.rest);
-        if self.job == DETECTION {
-            let [stations, cables, _] = self.counts;
-            let state = 1 + stations.min(STATIONS) + cables.min(CABLES);
-            numbers.extend((0..2 * state).map(|n| (n as f64).to_bits()));
+        if self.states.is_empty() {
+            numbers.extend((0..self.state_numbers()).map(|n| (n as f64).to_bits()));
+        } else {
+            numbers.extend(&self.states);
         }
         numbers
+    }
+
+    /// How many numbers the states of the job have.
+    pub fn state_numbers(&self) -> u64 {
+        let [stations, cables, _] = self.counts;
+        let entries = stations.min(STATIONS) + cables.min(CABLES);
+        match self.job {
+            // Of each of two the time too.
+            DETECTION => 2 * (1 + entries),
+            STEP => entries,
+            _ => 0,
+        }
     }
 
     /// The fields that the job has: of an operating point those of its station alone.
@@ -199,7 +217,7 @@ impl Plan {
             breaker_fields(i, breaker, &mut fields);
         }
         let event: &[(&str, Accepted)] = match self.job {
-            FAULT_RUN => &[
+            job if has_fault(job) => &[
                 ("cable of the fault", Accepted::Numbers(rules::LAST_NUMBER)),
                 ("fraction", Accepted::Doubles(rules::FRACTION)),
                 ("fault resistance", Accepted::Doubles(rules::RESISTANCE)),

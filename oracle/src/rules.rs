@@ -4,7 +4,9 @@ use crate::dc_switching::{
     ConverterStation, ConverterTopology, DcBreaker, DcBreakerType, DcCable, DcFaultEvent,
 };
 use crate::grids::{Grid, SweepOrder};
-use crate::jobs::{DETECTION, FAULT_RUN, FLOW, LCC_POINT, SWEEP, SWITCHING_RUN, VSC_POINT};
+use crate::jobs::{
+    has_fault, DETECTION, FAULT_RUN, FLOW, LCC_POINT, SWEEP, SWITCHING_RUN, VSC_POINT,
+};
 
 /// Accepted values, ends included.
 #[derive(Clone, Copy)]
@@ -62,7 +64,8 @@ pub fn checked(job: u64) -> Vec<u64> {
     match job {
         FLOW => less(&[2, 4, 5, 9]),
         LCC_POINT | VSC_POINT => vec![6],
-        FAULT_RUN | SWEEP => less(&[]),
+        SWEEP => less(&[]),
+        _ if has_fault(job) => less(&[]),
         SWITCHING_RUN => less(&[2, 9]),
         DETECTION => vec![3, 1, 6, 7, 8],
         _ => panic!("job {job} checks no rule"),

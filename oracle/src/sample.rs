@@ -1,11 +1,15 @@
 //! The fixed jobs on grids that the program `replay` is run on.
 
+mod circuits;
+mod detections;
 mod flows;
 mod points;
+mod steps;
 
 use crate::draw::{self, Random};
 use crate::jobs::{
-    DETECTION, FAULT_RUN, FLOW, GRID_JOBS, LCC_POINT, SWEEP, SWITCHING_RUN, TIMES, VSC_POINT,
+    has_fault, CIRCUIT, DETECTION, FAULT_RUN, FLOW, GRID_JOBS, LCC_POINT, STEP, SWEEP,
+    SWITCHING_RUN, TIMES, VSC_POINT,
 };
 use crate::numbers::NAN;
 use crate::plan::{Accepted, End, Plan, HYBRID, MECHANICAL, MMC, SOLID_STATE};
@@ -24,6 +28,9 @@ pub fn jobs() -> Vec<Vec<u64>> {
     clearing_times(&mut plans);
     flows::flows(&mut plans);
     points::points(&mut plans);
+    detections::detections(&mut plans);
+    steps::steps(&mut plans);
+    circuits::circuits(&mut plans);
     let mut jobs: Vec<Vec<u64>> = plans.iter().map(Plan::numbers).collect();
     random(&mut jobs);
     jobs
@@ -170,7 +177,8 @@ fn tenths(plans: &mut Vec<Plan>) {
     }
 }
 
-/// In every study nothing broken, each rule alone, also where the study skips it, and each two that can be broken together.
+/// In every study nothing broken, each rule alone, also where the study skips it, and each two that can be broken together. A step
+/// and a circuit are refused as a fault run is, so of them each rule alone.
 fn rules(plans: &mut Vec<Plan>) {
     for job in STUDIES {
         plans.push(Plan::small(job));
@@ -181,13 +189,19 @@ fn rules(plans: &mut Vec<Plan>) {
             plans.push(broken(&broken(&Plan::small(job), one), other));
         }
     }
+    for job in [STEP, CIRCUIT] {
+        for one in 1..=last_rule(job) {
+            plans.push(broken(&Plan::small(job), one));
+        }
+    }
 }
 
 /// Only a fault and an order have fields that rule 9 looks at.
 fn last_rule(job: u64) -> u64 {
-    match job {
-        FAULT_RUN | SWEEP => 9,
-        _ => 8,
+    if has_fault(job) || job == SWEEP {
+        9
+    } else {
+        8
     }
 }
 
@@ -434,9 +448,9 @@ fn random(jobs: &mut Vec<Vec<u64>>) {
 #[cfg(test)]
 mod tests {
     use super::*;
-    use crate::jobs::{answer, is_point};
+    use crate::jobs::{answer, FLOATS};
     use crate::rules::checked;
-    use crate::tally::{Flows, Points};
+    use crate::tally::{Circuits, Kinds};
     use std::collections::BTreeSet;
 
     fn refusal(numbers: Vec<u64>) -> u64 {
@@ -459,23 +473,23 @@ mod tests {
         }
     }
 
-    /// No accepted grid leads to a voltage that is no number; all else that is counted of random jobs is among the fixed ones.
+    /// No accepted grid leads to a voltage that is no number, and none to an underdamped current without frequency; all else that is
+    /// counted of random jobs is among the fixed ones.
     #[test]
-    fn every_kind_of_flow_and_point() {
-        let (mut flows, mut points) = (Flows::default(), Points::default());
+    fn every_kind() {
+        let mut kinds = Kinds::default();
         for job in jobs() {
             let mut output = Vec::new();
             answer(&mut job.iter().copied(), &mut output).expect("a whole job");
-            match job[0] {
-                FLOW if output[0] == 0 => flows.add(&job, &output),
-                number if is_point(number) && output[0] == 0 => points.add(&output),
-                _ => {}
+            if job[0] != FLOATS && job[0] != TIMES && output[0] == 0 {
+                kinds.add(&job, &output);
             }
         }
-        assert_eq!(flows.not_finite, 0);
-        assert!(flows.largest_kv > 1e11);
-        for (name, count) in flows.counted().into_iter().chain(points.counted()) {
-            assert!(count > 0 || name == "a NaN or infinite voltage", "{name}");
+        assert_eq!(kinds.flows.not_finite, 0);
+        assert!(kinds.flows.largest_kv > 1e11);
+        let never = ["a NaN or infinite voltage", Circuits::NEVER];
+        for (name, count) in kinds.counted() {
+            assert_eq!(count == 0, never.contains(&name), "{name}");
         }
     }
 

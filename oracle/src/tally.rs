@@ -1,14 +1,20 @@
-//! What random jobs on grids met: their answers, the values at the ends of what the rules accept, and the kinds of flows and
-//! operating points.
+//! What random jobs on grids met: their answers, the values at the ends of what the rules accept, and the kinds of what was
+//! accepted.
 
+mod circuits;
+mod detections;
 mod flows;
 mod points;
+mod steps;
 
+pub use circuits::Circuits;
+pub use detections::Detections;
 pub use flows::Flows;
 pub use points::Points;
+pub use steps::Steps;
 
 use crate::draw::Drawn;
-use crate::jobs::{is_point, FLOW, GRID_JOBS, TIMES};
+use crate::jobs::{is_point, CIRCUIT, DETECTION, FLOW, GRID_JOBS, STEP, TIMES};
 use crate::plan::End;
 use crate::rules;
 use std::collections::BTreeMap;
@@ -18,8 +24,48 @@ use std::fmt;
 pub struct Tally {
     answers: BTreeMap<(u64, u64), u64>,
     ends: BTreeMap<(u64, &'static str, End), u64>,
-    flows: Flows,
-    points: Points,
+    kinds: Kinds,
+}
+
+/// The kinds of what no rule refused, study by study.
+#[derive(Default)]
+pub struct Kinds {
+    pub flows: Flows,
+    pub points: Points,
+    pub detections: Detections,
+    pub steps: Steps,
+    pub circuits: Circuits,
+}
+
+impl Kinds {
+    /// Adds an accepted job with its answer.
+    pub fn add(&mut self, job: &[u64], answer: &[u64]) {
+        match job[0] {
+            FLOW => self.flows.add(job, answer),
+            number if is_point(number) => self.points.add(answer),
+            DETECTION => self.detections.add(job, answer),
+            STEP => self.steps.add(job, answer),
+            CIRCUIT => self.circuits.add(job, answer),
+            _ => {}
+        }
+    }
+
+    /// What was counted, each with its name.
+    pub fn counted(&self) -> Vec<(&'static str, u64)> {
+        let mut all = self.flows.counted().to_vec();
+        all.extend(self.points.counted());
+        all.extend(self.detections.counted());
+        all.extend(self.steps.counted());
+        all.extend(self.circuits.counted());
+        all
+    }
+}
+
+impl fmt::Display for Kinds {
+    fn fmt(&self, f: &mut fmt::Formatter) -> fmt::Result {
+        write!(f, "{}{}", self.flows, self.points)?;
+        write!(f, "{}{}{}", self.detections, self.steps, self.circuits)
+    }
 }
 
 impl Tally {
@@ -32,11 +78,8 @@ impl Tally {
             return;
         }
         *self.answers.entry((number, answer)).or_default() += 1;
-        if answer == 0 && number == FLOW {
-            self.flows.add(&job.numbers, numbers);
-        }
-        if answer == 0 && is_point(number) {
-            self.points.add(numbers);
+        if answer == 0 {
+            self.kinds.add(&job.numbers, numbers);
         }
         let checked = rules::checked(number);
         for put in &job.put {
@@ -94,6 +137,6 @@ impl fmt::Display for Tally {
             }
         }
         writeln!(f)?;
-        write!(f, "{}{}", self.flows, self.points)
+        write!(f, "{}", self.kinds)
     }
 }

@@ -10,7 +10,7 @@ use std::{env, thread};
 
 const USAGE: &str = "\
 compare COUNT SEED PROGRAM [ARGS..]             COUNT float operations drawn at random (job 8)
-compare jobs LIST COUNT SEED PROGRAM [ARGS..]   COUNT random jobs, of the numbers in LIST in turn, as 1,2,3,4,5,6,7,12
+compare jobs LIST COUNT SEED PROGRAM [ARGS..]   COUNT random jobs, of the numbers in LIST in turn, as 1,2,12
 compare roots PROGRAM [ARGS..]                  the square roots of the whole numbers 0 to 65,535";
 
 /// How many differences are shown.

@@ -2,7 +2,7 @@
 //! cables may do beside joining two stations.
 
 use super::grids::{breaker, inside, seen_in, set_inside, times};
-use super::{neighbour, Drawn, Random};
+use super::{neighbour, power_of_ten, Drawn, Random};
 use crate::grids::{CABLES, STATIONS};
 use crate::jobs::FLOW;
 use crate::plan::{Plan, MMC};
@@ -81,17 +81,12 @@ impl Style {
     }
 }
 
-/// Any magnitude is as likely as any other.
-fn power_of_ten(low: f64, high: f64, random: &mut Random) -> f64 {
-    f64::powf(10.0, low + (high - low) * random.fraction())
-}
-
 /// x, or the end of the range that it is beyond.
-fn held(range: Range, x: f64) -> f64 {
+pub fn held(range: Range, x: f64) -> f64 {
     x.clamp(range.low, range.high)
 }
 
-fn stations(random: &mut Random) -> u64 {
+pub fn stations(random: &mut Random) -> u64 {
     match random.below(16) {
         0 => 1,
         1..=4 => 2,
@@ -166,7 +161,8 @@ enum Shape {
     Nothing,
 }
 
-fn cables(n: u64, style: &Style, random: &mut Random) -> Vec<[u64; 7]> {
+/// The ends of the cables of a grid, and of others at times.
+pub fn ends(n: u64, random: &mut Random) -> Vec<[u64; 2]> {
     let shape = random.pick(&[
         Shape::Star,
         Shape::Star,
@@ -197,6 +193,11 @@ fn cables(n: u64, style: &Style, random: &mut Random) -> Vec<[u64; 7]> {
     if random.below(2) == 0 {
         add_others(&mut ends, n, random);
     }
+    ends
+}
+
+fn cables(n: u64, style: &Style, random: &mut Random) -> Vec<[u64; 7]> {
+    let ends = ends(n, random);
     let extremes = random.below(8) == 0;
     let mut cables: Vec<[u64; 7]> = ends
         .into_iter()

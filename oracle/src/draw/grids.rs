@@ -1,9 +1,12 @@
 //! Jobs on grids: most fields lie well inside their ranges, and a few values stand at the ends of what the rules accept.
 
-use super::{points, Drawn, Put, Random};
+use super::{circuits, detections, points, steps, Drawn, Put, Random};
 use crate::dc_switching::{total_steps, DcSwitchingSimulator};
 use crate::grids::{BREAKERS, CABLES, STATIONS};
-use crate::jobs::{is_point, FAULT_RUN, LCC_POINT, SWEEP, SWITCHING_RUN, TIMES, VSC_POINT};
+use crate::jobs::{
+    has_fault, is_point, CIRCUIT, DETECTION, FAULT_RUN, LCC_POINT, STEP, SWEEP, SWITCHING_RUN,
+    TIMES, VSC_POINT,
+};
 use crate::numbers::double;
 use crate::plan::{Accepted, End, Field, Plan, MMC};
 use crate::rules::{Range, LAST_NUMBER, LAST_TENTH, MOST_STEPS};
@@ -47,7 +50,7 @@ fn aims(job: u64, random: &mut Random) -> Vec<u64> {
         .map(|_| match job {
             LCC_POINT | VSC_POINT => 6,
             // The last has many fields, and every other rule comes before it.
-            FAULT_RUN | SWEEP => random.pick(&[1, 2, 3, 4, 5, 6, 7, 8, 9, 9, 9]),
+            _ if has_fault(job) || job == SWEEP => random.pick(&[1, 2, 3, 4, 5, 6, 7, 8, 9, 9, 9]),
             _ => 1 + random.below(8),
         })
         .collect()
@@ -102,11 +105,17 @@ fn plan(job: u64, counts: [u64; 3], random: &mut Random) -> Plan {
         set_inside(&mut plan, &field, random);
     }
     plan.times = times(random);
+    if has_fault(job) {
+        plan.event[0] = random.below(3);
+    }
     match job {
-        FAULT_RUN => {
-            plan.event[0] = random.below(3);
-            plan.rest = calls(random);
+        FAULT_RUN => plan.rest = calls(random),
+        DETECTION => plan.states = detections::states(&plan, random),
+        STEP => {
+            plan.rest = steps::rest(random);
+            plan.states = steps::state(&plan, random);
         }
+        CIRCUIT => plan.rest = circuits::rest(&plan, random),
         SWITCHING_RUN => {
             plan.rest = vec![magnitude(random), random.below(2)];
             plan.rest.extend(calls(random));

@@ -19,10 +19,10 @@ pub fn flows(plans: &mut Vec<Plan>) {
     full(plans);
 }
 
-type Station = [u64; 11];
+pub type Station = [u64; 11];
 type Cable = [u64; 7];
 
-fn station(topology: u64, submodules: u64, kv: f64, mw: f64) -> Station {
+pub fn station(topology: u64, submodules: u64, kv: f64, mw: f64) -> Station {
     let doubles = [kv, mw, 0.15, 3.0, 15.0, 0.1, 50.0, 10_000.0].map(f64::to_bits);
     let mut station = [topology, submodules, 0, 0, 0, 0, 0, 0, 0, 0, 0];
     station[3..].copy_from_slice(&doubles);
