@@ -1,9 +1,13 @@
 // Runs the studies on numbers, so that the Rust can be given the same ones and the answers compared line by line. Jobs are
 // read from standard input until it ends; their answers go to standard output.
+mod circuits;
+mod faults;
 mod floats;
 mod flows;
 mod grids;
 mod numbers;
+mod states;
+mod steps;
 mod studies;
 mod times;
 
@@ -28,10 +32,12 @@ fn answer(lines: &mut [u8; ROOM], answers: &mut [u8; ROOM], c: Cursor) -> After 
         3 => flows::vsc_point(lines, answers, c),
         4 => studies::fault_run(lines, answers, c),
         5 => studies::switching_run(lines, answers, c),
-        6 => studies::detection(lines, answers, c),
+        6 => states::detection(lines, answers, c),
         7 => studies::sweep(lines, answers, c),
         8 => floats::answer(lines, answers, c),
         12 => times::answer(lines, answers, c),
+        13 => steps::answer(lines, answers, c),
+        14 => circuits::answer(lines, answers, c),
         _ => After::Nothing(c),
     }
 }

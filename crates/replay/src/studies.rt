@@ -1,22 +1,16 @@
-// Jobs 4, 5, 6 and 7, each up to its refusal: 0 for what is accepted, or the number of the rule that refuses it. A job is
+// Jobs 4, 5 and 7, each up to its refusal: 0 for what is accepted, or the number of the rule that refuses it. A job is
 // read whole before it is answered, also where the answer does not depend on its last numbers.
 use crate::After;
+use crate::faults;
+use crate::faults::FaultRead;
 use crate::grids;
 use crate::numbers;
 use crate::numbers::Cursor;
 use crate::numbers::ROOM;
 use crate::numbers::Skipped;
 use crate::numbers::Taken;
-use grid::DcFaultEvent;
-use grid::DcFaultType;
-use grid::DcSwitchingSimulator;
 use grid::SweepOrder;
 use rules::Verdict;
-
-enum FaultRead {
-    Fault(DcFaultEvent, Cursor),
-    Ended,
-}
 
 enum OrderRead {
     Order(SweepOrder, Cursor),
@@ -31,7 +25,7 @@ pub fn fault_run(lines: &mut [u8; ROOM], answers: &mut [u8; ROOM], c: Cursor) ->
     }
     let g = r.grid;
     let c = r.c;
-    let FaultRead::Fault(fault, c) = read_fault(lines, c) else {
+    let FaultRead::Fault(fault, c) = faults::read_fault(lines, c) else {
         return After::Nothing(c);
     };
     let Skipped::To(c) = skip_calls(lines, c) else {
@@ -57,23 +51,6 @@ pub fn switching_run(lines: &mut [u8; ROOM], answers: &mut [u8; ROOM], c: Cursor
     refusal(answers, c, rules::check_switching(g))
 }
 
-// Job 6: a grid and two states of it.
-pub fn detection(lines: &mut [u8; ROOM], answers: &mut [u8; ROOM], c: Cursor) -> After {
-    let r = grids::read_grid(lines, c);
-    if r.ended {
-        return After::Nothing(c);
-    }
-    let g = r.grid;
-    let c = r.c;
-    let Skipped::To(c) = skip_state(lines, c, g) else {
-        return After::Nothing(c);
-    };
-    let Skipped::To(c) = skip_state(lines, c, g) else {
-        return After::Nothing(c);
-    };
-    refusal(answers, c, rules::check_detection(g))
-}
-
 // Job 7: a grid, an order and calls.
 pub fn sweep(lines: &mut [u8; ROOM], answers: &mut [u8; ROOM], c: Cursor) -> After {
     let r = grids::read_grid(lines, c);
@@ -93,34 +70,6 @@ pub fn sweep(lines: &mut [u8; ROOM], answers: &mut [u8; ROOM], c: Cursor) -> Aft
 
 fn refusal(answers: &mut [u8; ROOM], c: Cursor, v: Verdict) -> After {
     After::Job(numbers::append(answers, c, rules::number(v)))
-}
-
-// Type, cable, fraction, resistance, inception.
-fn read_fault(lines: &mut [u8; ROOM], c: Cursor) -> FaultRead {
-    let row = numbers::next_row(lines, c, 5);
-    let n = row.numbers;
-    if row.ended | (n[0] > 2) {
-        return FaultRead::Ended;
-    }
-    let c = row.c;
-    FaultRead::Fault(
-        DcFaultEvent {
-            fault_type: fault_type_of(n[0]),
-            location_cable_id: n[1],
-            location_fraction: float64::from_bits(n[2]),
-            fault_resistance: float64::from_bits(n[3]),
-            inception_time_ms: float64::from_bits(n[4]),
-        },
-        c,
-    )
-}
-
-fn fault_type_of(number: u64) -> DcFaultType {
-    match number {
-        0 => DcFaultType::PoleToGround,
-        1 => DcFaultType::PoleToPole,
-        _ => DcFaultType::ConverterInternal,
-    }
 }
 
 // Resistance, inception, low and high tenth.
@@ -152,11 +101,4 @@ fn skip_calls(lines: &mut [u8; ROOM], c: Cursor) -> Skipped {
         return Skipped::Ended;
     };
     numbers::skip(lines, c, k)
-}
-
-// Time, station voltages, cable currents.
-fn skip_state(lines: &mut [u8; ROOM], c: Cursor, g: DcSwitchingSimulator) -> Skipped {
-    let voltages = grids::cut(g.n_stations as u64, 32);
-    let currents = grids::cut(g.n_cables as u64, 64);
-    numbers::skip(lines, c, 1 + voltages + currents)
 }
