@@ -117,7 +117,7 @@ fn last_of(stations: u64) -> usize
     }
 }
 
-fn loaded_grid(stations: u64, cables: u64, each_mw: f64) -> DcSwitchingSimulator {
+pub fn loaded_grid(stations: u64, cables: u64, each_mw: f64) -> DcSwitchingSimulator {
     let grid = DcSwitchingSimulator::new(1000.0, 100.0);
     with_ring(with_loads(grid, stations, each_mw), stations, cables)
 }

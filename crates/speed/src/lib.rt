@@ -3,6 +3,7 @@ mod breakers;
 mod floats;
 mod flows;
 mod samples;
+mod steps;
 mod studies;
 
 pub use breakers::sum_fastest;
@@ -13,4 +14,6 @@ pub use floats::sum_sqrt;
 pub use flows::solve_flows;
 pub use flows::sum_lcc_points;
 pub use flows::sum_vsc_points;
+pub use steps::sum_fault_currents;
+pub use steps::sum_steps;
 pub use studies::count_accepted;

@@ -117,7 +117,7 @@ const LOADS: [Load; 2] = [
 ];
 
 /// Stations of the four topologies in turn; a ring of cables, then a chord over five stations from each in turn.
-fn loaded_simulator(stations: u64, cables: u64, each_mw: f64) -> DcSwitchingSimulator {
+pub fn loaded_simulator(stations: u64, cables: u64, each_mw: f64) -> DcSwitchingSimulator {
     let mut simulator = DcSwitchingSimulator::new(1000.0, 100.0);
     let n = stations as usize;
     for id in 0..n {
