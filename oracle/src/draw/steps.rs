@@ -22,12 +22,14 @@ pub fn job(random: &mut Random) -> Drawn {
     }
 }
 
-/// A job on a grid with a fault, which no rule of a fault run refuses.
+/// A job on a grid with a fault, which no rule of a fault run refuses. Half of the grids have usual parts alone, since the least
+/// inductance or capacitance throws the voltages far off in one step.
 pub fn grid(job: u64, random: &mut Random) -> Plan {
     let n = stations(random);
+    let parts = random.pick(&[Parts::Usual, Parts::Any]);
     let mut plan = Plan::small(job);
-    plan.stations = (0..n).map(|i| station(i, n, random)).collect();
-    plan.cables = cables(n, random);
+    plan.stations = (0..n).map(|i| station(i, n, parts, random)).collect();
+    plan.cables = cables(n, parts, random);
     plan.breakers = (0..random.below(8) / 6).map(|_| breaker(random)).collect();
     plan.counts = [n, plan.cables.len() as u64, plan.breakers.len() as u64];
     for field in plan.fields().iter().filter(|field| field.rule == 8) {
@@ -38,16 +40,25 @@ pub fn grid(job: u64, random: &mut Random) -> Plan {
     plan
 }
 
-/// Of common size, and at times an end of its range or anything in it.
-fn some(range: Range, common: &[f64], random: &mut Random) -> u64 {
-    match random.below(8) {
-        0 => random.pick(&[range.low, range.high]).to_bits(),
-        1 => inside(range, random),
-        _ => held(range, random.pick(common)).to_bits(),
+#[derive(Clone, Copy)]
+enum Parts {
+    Usual,
+    Any,
+}
+
+impl Parts {
+    /// A usual value; or one of others, an end of the range, or anything in it.
+    fn some(self, range: Range, usual: &[f64], others: &[f64], random: &mut Random) -> u64 {
+        match (self, random.below(8)) {
+            (Parts::Any, 0) => random.pick(&[range.low, range.high]).to_bits(),
+            (Parts::Any, 1) => inside(range, random),
+            (Parts::Any, 2..=5) => random.pick(others).to_bits(),
+            _ => random.pick(usual).to_bits(),
+        }
     }
 }
 
-fn station(position: u64, n: u64, random: &mut Random) -> [u64; 11] {
+fn station(position: u64, n: u64, parts: Parts, random: &mut Random) -> [u64; 11] {
     let topology = random.below(4);
     let submodules = match topology {
         MMC => random.pick(&[0, 1, 2, 10, 200, LAST_NUMBER]),
@@ -58,20 +69,17 @@ fn station(position: u64, n: u64, random: &mut Random) -> [u64; 11] {
     let id = random.pick(&[position, position, n - 1 - position, 0, any, n, LAST_NUMBER]);
     let mut station = [0; 11];
     station[..3].copy_from_slice(&[topology, submodules, id]);
-    station[3] = some(RATED_KV, &[100.0, 320.0, 500.0, 800.0], random);
-    station[4] = some(RATED_MW, &[0.0, 0.5, 100.0, 1000.0], random);
+    station[3] = parts.some(RATED_KV, &[320.0, 500.0], &[1.0, 100.0, 800.0], random);
+    station[4] = parts.some(RATED_MW, &[500.0, 1000.0], &[0.0, 0.5, 1.0], random);
     for column in 5..10 {
         station[column] = random.pick(&[0.0f64, 0.1, 1.0, 10.0]).to_bits();
     }
-    station[10] = some(
-        SUBMODULE_CAPACITANCE,
-        &[0.0, 0.01, 1.0, 100.0, 10_000.0],
-        random,
-    );
+    let (usual, others) = ([1_000.0, 10_000.0], [0.0, 0.01, 0.06, 1.0]);
+    station[10] = parts.some(SUBMODULE_CAPACITANCE, &usual, &others, random);
     station
 }
 
-fn cables(n: u64, random: &mut Random) -> Vec<[u64; 7]> {
+fn cables(n: u64, parts: Parts, random: &mut Random) -> Vec<[u64; 7]> {
     let mut ends = ends(n, random);
     if ends.is_empty() {
         ends.push([0, n - 1]);
@@ -79,18 +87,18 @@ fn cables(n: u64, random: &mut Random) -> Vec<[u64; 7]> {
     ends.truncate(CABLES as usize);
     ends.into_iter()
         .map(|[a, b]| match random.below(2) {
-            0 => cable(a, b, random),
-            _ => cable(b, a, random),
+            0 => cable(a, b, parts, random),
+            _ => cable(b, a, parts, random),
         })
         .collect()
 }
 
-fn cable(from: u64, to: u64, random: &mut Random) -> [u64; 7] {
+fn cable(from: u64, to: u64, parts: Parts, random: &mut Random) -> [u64; 7] {
     let mut cable = [random.below(LAST_NUMBER + 1), from, to, 0, 0, 0, 0];
-    cable[3] = some(PER_KM, &[0.01, 0.1, 1e-9, 0.0], random);
-    cable[4] = some(PER_KM, &[0.5, 1.0, 1e-6, 0.0], random);
-    cable[5] = some(PER_KM, &[0.2, 1.0, 1e-3, 0.0], random);
-    cable[6] = some(LENGTH, &[1.0, 10.0, 200.0, 0.0], random);
+    cable[3] = parts.some(PER_KM, &[0.01, 0.03], &[0.0, 1e-9, 1.0], random);
+    cable[4] = parts.some(PER_KM, &[0.5, 0.7], &[0.0, 1e-6, 10.0], random);
+    cable[5] = parts.some(PER_KM, &[0.2, 0.3], &[0.0, 1e-3, 10.0], random);
+    cable[6] = parts.some(LENGTH, &[90.0, 200.0], &[0.0, 1.0, 10.0], random);
     cable
 }
 
@@ -121,7 +129,7 @@ fn fault(cables: u64, random: &mut Random) -> Vec<u64> {
         cable,
         held(FRACTION, fraction).to_bits(),
         held(RESISTANCE, resistance).to_bits(),
-        some(INCEPTION, &[0.0, 1.0, 10.0], random),
+        Parts::Any.some(INCEPTION, &[0.0], &[1.0, 10.0], random),
     ]
 }
 
@@ -138,24 +146,27 @@ pub fn rest(random: &mut Random) -> Vec<u64> {
     vec![u64::from(random.below(4) > 0), dt_s]
 }
 
-/// Voltages around the rated ones and currents of some kiloamperes; in one of four states any doubles too.
+/// Voltages around the rated ones and currents of some kiloamperes; in half of the states some at rest or far off too, and in one of
+/// four any doubles.
 pub fn state(plan: &Plan, random: &mut Random) -> Vec<u64> {
-    let rated: Vec<f64> = plan.stations.iter().map(|s| double(s[3])).collect();
-    let voltages = rated.iter().map(|kv| {
-        let part = match random.below(8) {
-            0 => 0.0,
-            1 => random.pick(&[0.001, 1.0, -0.5]),
-            _ => 0.5 + random.fraction(),
+    let parts = random.pick(&[Parts::Usual, Parts::Any]);
+    let mut state = Vec::new();
+    for station in &plan.stations {
+        let part = match (parts, random.below(8)) {
+            (Parts::Any, 0) => 0.0,
+            (Parts::Any, 1) => random.pick(&[0.001, 1.0, -0.5]),
+            _ => 0.7 + 0.6 * random.fraction(),
         };
-        kv * part
-    });
-    let mut state: Vec<u64> = voltages.map(f64::to_bits).collect();
-    let currents = plan.cables.iter().map(|_| match random.below(8) {
-        0 => 0.0,
-        1 => 1e3 * (random.fraction() - 0.5),
-        _ => 20.0 * (random.fraction() - 0.5),
-    });
-    state.extend(currents.map(f64::to_bits).collect::<Vec<u64>>());
+        state.push((double(station[3]) * part).to_bits());
+    }
+    for _ in &plan.cables {
+        let ka = match (parts, random.below(8)) {
+            (Parts::Any, 0) => 0.0,
+            (Parts::Any, 1) => 1e3 * (random.fraction() - 0.5),
+            _ => 20.0 * (random.fraction() - 0.5),
+        };
+        state.push(ka.to_bits());
+    }
     if random.below(4) == 0 {
         let one_of = random.pick(&[1, 4, 32]);
         for entry in &mut state {

@@ -6,13 +6,21 @@ use crate::numbers::double;
 use std::collections::HashSet;
 use std::fmt;
 
-#[derive(Default)]
 pub struct Steps {
     pub all: u64,
     counts: [u64; NAMES.len()],
 }
 
-const NAMES: [&str; 32] = [
+impl Default for Steps {
+    fn default() -> Self {
+        Steps {
+            all: 0,
+            counts: [0; NAMES.len()],
+        }
+    }
+}
+
+const NAMES: [&str; 33] = [
     "a fault handed to the step",
     "no fault handed to it",
     "a fault on a cable past the count",
@@ -22,6 +30,7 @@ const NAMES: [&str; 32] = [
     "a fault at the least resistance",
     "a faulted cable from a station to itself",
     "a faulted cable with an end past the count",
+    "voltages of half to twice the rated ones",
     "a voltage raised to 0",
     "a NaN in the answer",
     "an infinity in the answer",
@@ -77,6 +86,7 @@ impl Steps {
             handed && fault.fault_resistance <= 1e-6,
             on(|c, n| c.from_station == c.to_station && c.from_station < n),
             on(|c, n| c.from_station >= n || c.to_station >= n),
+            (0..n).all(|i| (0.5..2.0).contains(&(next[i] / stations[i].v_dc_rated_kv))),
             (0..n).any(|i| next[i] == 0.0 && state[i] != 0.0),
             next.iter().any(|x| x.is_nan()),
             next.iter().any(|x| x.is_infinite()),
