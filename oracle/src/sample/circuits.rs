@@ -99,6 +99,12 @@ fn faults(plans: &mut Vec<Plan>) {
             plans.push(plan);
         }
     }
+    // A sum of inductances in which every step is rounded.
+    for (mh, arm_mh) in [(0.1, 0.7), (1.3, 1.1)] {
+        let mut plan = circuit(1.0, 8.0, arm_mh);
+        plan.cables[0][4] = f64::to_bits(mh);
+        plans.push(plan);
+    }
     for ohms in [0.0, 1e-9, RESISTANCE.high] {
         let mut plan = whole();
         plan.event[3] = f64::to_bits(ohms);

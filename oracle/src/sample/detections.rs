@@ -36,7 +36,7 @@ fn quiet(rated: &[f64], cables: usize) -> States {
 
 /// Three stations of other voltages, and three cables.
 fn three() -> States {
-    quiet(&[100.0, 320.0, 333.3], 3)
+    quiet(&[100.0, 320.0, 20.7], 3)
 }
 
 impl States {
@@ -74,6 +74,14 @@ fn slopes(plans: &mut Vec<Plan>) {
             plans.push(states.plan());
         }
     }
+    // In 0.003 ms the double above 0.03 kA makes 10 kA/ms, and no more.
+    let rounded = (10.0f64 * 0.003).next_up();
+    for current in [rounded, rounded.next_up()] {
+        let mut states = three();
+        states.ms[LATER] = 0.003;
+        states.currents[LATER][1] = current;
+        plans.push(states.plan());
+    }
     // From 5 kA to as much the other way, and in half the time.
     for ms in [1.0, 0.5] {
         let mut states = three();
@@ -84,7 +92,8 @@ fn slopes(plans: &mut Vec<Plan>) {
     }
 }
 
-/// 0.8 of the rated voltage and the double below it, at each station. Of 333.3 kV it is rounded.
+/// 0.8 of the rated voltage and the double below it, at each station. Of 20.7 kV it is rounded, and as a part of 20.7 kV it would be
+/// less than 0.8.
 fn voltages(plans: &mut Vec<Plan>) {
     for station in 0..3 {
         let least = 0.8 * three().rated[station];

@@ -98,6 +98,17 @@ fn faults(plans: &mut Vec<Plan>) {
         plan.event = fault(0, fraction, ohms);
         plans.push(plan);
     }
+    // Each product and quotient is rounded, the step is so long that it shows, and no cable of no length hides it.
+    let two = [
+        station(LCC, 0, 500.0, 1000.0),
+        station(TWO_LEVEL, 0, 500.0, 700.0),
+    ];
+    for (fraction, ohms) in [(0.1, 3.0), (0.3, 7.0), (0.7, 0.3)] {
+        let mut plan = step(&two, &[cable(0, 1, 2.0, 100.0, 40.0, 200.0)]);
+        plan.event = fault(0, fraction, ohms);
+        plan.rest[1] = 1e-2f64.to_bits();
+        plans.push(plan);
+    }
 }
 
 /// Ids that are not the positions: a cable's capacitance is at the station with its end's id, and its current at the end's position.
