@@ -1,7 +1,7 @@
 //! Steps of a grid's state and currents of a fault beside the Rust's.
 
 use crate::flows::loaded_simulator;
-use crate::{CALLS, ROUNDS};
+use crate::ROUNDS;
 use oracle::dc_switching::{self, DcFaultEvent, DcFaultType, DcTransientState};
 use oracle::numbers::bits;
 use std::hint::black_box;
@@ -53,27 +53,41 @@ type Currents = unsafe extern "C" fn(f64, u64) -> f64;
 const STEPS: [Steps; 2] = [rust_sum_steps, sum_steps];
 const CURRENTS: [Currents; 2] = [rust_sum_fault_currents, sum_fault_currents];
 
-/// The stations and cables of the grids that make steps, and how many in a round.
-const GRIDS: [(u64, u64, u64); 3] = [(2, 1, 20_000), (12, 16, 5_000), (32, 64, 1_000)];
+/// The stations and cables of the grids that make steps, and how many in a round: so many that the Rust takes about a millisecond, which
+/// is less than a turn of the scheduler where the machine is shared.
+const GRIDS: [(u64, u64, u64); 3] = [(2, 1, 4_000), (12, 16, 800), (32, 64, 120)];
+
+/// The currents in a round.
+const TIMES: u64 = 20_000;
 
 /// The ohms per km with which a fault's current swings, and with which it does not.
 const OHMS: [(&str, f64); 2] = [("swinging", 0.01), ("settling", 10.0)];
 
 /// The times of the Rust's loop and the library's in nanoseconds per call, in turns, from the shortest to the longest, and their sums.
+/// What a loop of no turn takes, which builds the grid, is taken off.
 fn in_turns<F: Copy>(
     loops: [F; 2],
     count: u64,
     run: impl Fn(F, u64) -> f64,
 ) -> ([Vec<f64>; 2], [f64; 2]) {
+    let timed = |f: F, count: u64| {
+        let (f, n) = (black_box(f), black_box(count));
+        let began = Instant::now();
+        let sum = run(f, n);
+        (began.elapsed().as_nanos() as f64, sum)
+    };
+    let built = loops.map(|f| {
+        let times = (0..ROUNDS).map(|_| timed(f, 0).0);
+        times.fold(f64::INFINITY, f64::min)
+    });
     let mut times = [Vec::new(), Vec::new()];
     let mut sums = [0.0; 2];
     for round in 0..ROUNDS {
         for turn in 0..2 {
             let which = (round + turn) % 2;
-            let (f, n) = (black_box(loops[which]), black_box(count));
-            let began = Instant::now();
-            sums[which] = run(f, n);
-            times[which].push(began.elapsed().as_nanos() as f64 / count as f64);
+            let (ns, sum) = timed(loops[which], count);
+            sums[which] = sum;
+            times[which].push((ns - built[which]) / count as f64);
         }
     }
     for times in &mut times {
@@ -128,7 +142,7 @@ pub fn currents() -> usize {
     let mut different = 0;
     head("fault currents", "ns");
     for (name, ohms) in OHMS {
-        let (times, sums) = in_turns(CURRENTS, CALLS, |f, count| unsafe {
+        let (times, sums) = in_turns(CURRENTS, TIMES, |f, count| unsafe {
             f(black_box(ohms), count)
         });
         different += row(name, times, sums, 1.0);
