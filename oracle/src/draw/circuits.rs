@@ -71,7 +71,7 @@ fn set_critical(plan: &mut Plan, random: &mut Random) {
     let [_, square] = damping_squares(&grid.simulator, &fault);
     let [l_mh, ..] = circuit_parameters(&grid.simulator, &fault);
     let ohms = square.sqrt() * 2.0 * (l_mh * 1e-3) / km;
-    if !(ohms <= PER_KM.high) {
+    if ohms > PER_KM.high {
         return;
     }
     let mut below = ohms;

@@ -71,8 +71,8 @@ fn station(position: u64, n: u64, parts: Parts, random: &mut Random) -> [u64; 11
     station[..3].copy_from_slice(&[topology, submodules, id]);
     station[3] = parts.some(RATED_KV, &[320.0, 500.0], &[1.0, 100.0, 800.0], random);
     station[4] = parts.some(RATED_MW, &[500.0, 1000.0], &[0.0, 0.5, 1.0], random);
-    for column in 5..10 {
-        station[column] = random.pick(&[0.0f64, 0.1, 1.0, 10.0]).to_bits();
+    for field in &mut station[5..10] {
+        *field = random.pick(&[0.0f64, 0.1, 1.0, 10.0]).to_bits();
     }
     let (usual, others) = ([1_000.0, 10_000.0], [0.0, 0.01, 0.06, 1.0]);
     station[10] = parts.some(SUBMODULE_CAPACITANCE, &usual, &others, random);
