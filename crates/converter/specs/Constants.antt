@@ -10,9 +10,6 @@ three = ofBits binary64 0x4008_0000_0000_0000
 abbrev pub four : Float
 four = ofBits binary64 0x4010_0000_0000_0000
 
-abbrev pub half : Float
-half = ofBits binary64 0x3fe0_0000_0000_0000
-
 abbrev pub threeHalves : Float
 threeHalves = ofBits binary64 0x3ff8_0000_0000_0000
 
@@ -59,7 +56,6 @@ lccPart = ofBits binary64 0x3fe3_3333_3333_3333
 pub constants-are
     : (three ≡ decimal 3 1)
     × (four ≡ decimal 4 1)
-    × (half ≡ decimal 1 2)
     × (threeHalves ≡ decimal 15 10)
     × (least ≡ decimal 1 (10 ^ 6))
     × (leastSquare ≡ decimal 1 (10 ^ 12))
@@ -73,4 +69,4 @@ pub constants-are
     × (hybridPart ≡ decimal 8 10)
     × (lccPart ≡ decimal 6 10)
 unfolding ofBits round
-constants-are = (refl, refl, refl, refl, refl, refl, refl, refl, refl, refl, refl, refl, refl, refl, refl)
+constants-are = (refl, refl, refl, refl, refl, refl, refl, refl, refl, refl, refl, refl, refl, refl)

@@ -2,7 +2,7 @@
 use mathlib.Core.Bool.{cond}
 use lib.IntN.{pos}
 use lib.Ieee.{Float, binary64, ofInt, lt}
-use Rattle.float64.specs.Constants.{nought, one, k180, pi}
+use Rattle.float64.specs.Constants.{nought, one, k180, pi, half}
 use Rattle.float64.specs.Arithmetic.{_⊕_, _⊗_, _⊘_}
 use Rattle.float64.specs.Choice.{maxOf, absOf, clampOf}
 use Rattle.float64.specs.Root.{rootOf}
@@ -12,7 +12,7 @@ use Rattle.grid.specs.declared.parts.ConverterTopology.the-variants.{Lcc, TwoLe
 use Rattle.grid.specs.declared.parts.ConverterStation.{ConverterStation}
 use Rattle.converter.specs.declared.answer.ConverterOperatingPoint.{ConverterOperatingPoint}
 use Rattle.converter.specs.Answer.{accepted}
-use Rattle.converter.specs.Constants.{half, threeHalves, least, leastSquare, vscStanding, vscLinear, vscSquare, mostModulation, idleModulation, hybridPart, lccPart}
+use Rattle.converter.specs.Constants.{threeHalves, least, leastSquare, vscStanding, vscLinear, vscSquare, mostModulation, idleModulation, hybridPart, lccPart}
 
 -- VSC: voltage at least 1e-6
 abbrev pub vscVoltage : Float → Float

@@ -10,7 +10,7 @@ use lib.Ieee.Bits.{is-true}
 use Rattle.lists.specs.Scans.{every}
 use Rattle.lists.proofs.Counting.{by-test}
 use Rattle.lists.proofs.Scanning.{both, every-of}
-use Rattle.float64.specs.Constants.{nought, one}
+use Rattle.float64.specs.Constants.{nought, one, kilo, pico}
 use Rattle.float64.specs.Arithmetic.{_⊖_, _⊗_, _⊘_}
 use Rattle.float64.specs.Choice.{absOf}
 use Rattle.float64.specs.Exponential.{E}
@@ -25,7 +25,6 @@ use Rattle.fault_circuit.specs.declared.parameters.RlcParameters.{RlcPar
 use Rattle.fault_circuit.specs.declared.circuit.Response.{Response}
 use Rattle.fault_circuit.specs.declared.circuit.Response.the-variants.{Underdamped, Overdamped, Critical, Still}
 use Rattle.fault_circuit.specs.declared.circuit.FaultCircuit.{FaultCircuit}
-use Rattle.fault_circuit.specs.Constants.{kilo, pico}
 use Rattle.fault_circuit.specs.Parameters.{parametersOf}
 use Rattle.fault_circuit.specs.Circuit.{alpha, omega0Sq, underdamped, omegaD, s1, s2, underdampedResponse, overdampedResponse, responseOf, resistanceFactor, typeFactor, circuitAt, circuitOf}
 use Rattle.fault_circuit.specs.Current.{secondsSince, amperesBy, amperes, currentBy, currentOf, decayedBy, decayedOf, duringFault, exponents, rlcAmperes}

@@ -11,14 +11,13 @@ use lib.Ieee.Fits.{div-fits}
 use Rattle.lists.specs.Scans.{every}
 use Rattle.lists.proofs.Counting.{by-test}
 use Rattle.lists.proofs.Scanning.{both}
-use Rattle.float64.specs.Constants.{nought}
+use Rattle.float64.specs.Constants.{nought, milli, pico}
 use Rattle.float64.specs.Arithmetic.{_⊖_, _⊗_, _⊘_}
 use Rattle.float64.specs.Choice.{maxOf, absOf}
 use Rattle.float64.proofs.Fields.{no-nan}
 use Rattle.float64.proofs.Order.{le-of-not-lt}
 use Rattle.float64.proofs.Range.{UpTo, from-range, neg-neg, times, minus-raised, never-times, never-over}
 use Rattle.fault_circuit.specs.declared.parameters.RlcParameters.{RlcParameters}
-use Rattle.fault_circuit.specs.Constants.{milli, pico}
 use Rattle.fault_circuit.specs.Circuit.{alpha, omega0Sq, underdamped, omegaD, s1, s2, underdampedResponse, overdampedResponse, responseOf, decayTau}
 use Rattle.fault_circuit.specs.Current.{secondsSince, damping, along, duringFault}
 use Rattle.fault_circuit.specs.Claims.{neverPositive}

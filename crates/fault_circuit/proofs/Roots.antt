@@ -13,7 +13,7 @@ use lib.Ieee.Fits.{mul-fits, sub-fits}
 use lib.Ieee.Order.{round-mono}
 use lib.Ieee.Scale.{grid, finite, round-val, round-under}
 use lib.Ieee.Positive.{num, den, den-pos, positive, positive-finite, positive-of-value, le→cross}
-use Rattle.float64.specs.Constants.{nought, one, two}
+use Rattle.float64.specs.Constants.{nought, one, two, milli, micro, nano, pico}
 use Rattle.float64.specs.Arithmetic.{_⊖_, _⊗_, _⊘_}
 use Rattle.float64.specs.Root.{rootOf}
 use Rattle.float64.specs.Claims.{leastSquarable}
@@ -24,7 +24,7 @@ use Rattle.float64.proofs.Interval.{In, in-positive, in-wide, in-self, mul-in, 
 use Rattle.float64.proofs.RootOfSquare.{root-le}
 use Rattle.float64.proofs.RootPlace.{rooted}
 use Rattle.fault_circuit.specs.declared.parameters.RlcParameters.{RlcParameters}
-use Rattle.fault_circuit.specs.Constants.{milli, micro, nano, pico, leastCapacitance, leastCableResistance}
+use Rattle.fault_circuit.specs.Constants.{leastCapacitance, leastCableResistance}
 use Rattle.fault_circuit.specs.Circuit.{henries, inductance, capacitance, alpha, omega0Sq, disc, s1, s2, decayTau}
 use Rattle.fault_circuit.proofs.Ranges.{whole, Ranged}
 

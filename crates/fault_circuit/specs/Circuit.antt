@@ -1,7 +1,7 @@
 -- The RLC circuit of 000's `simulate_fault`, a line to a definition. Definitions only.
 use mathlib.Core.Bool.{Bool, cond}
 use lib.Ieee.{Float, lt, neg}
-use Rattle.float64.specs.Constants.{nought, one, two}
+use Rattle.float64.specs.Constants.{nought, one, two, milli, micro, kilo, nano, pico}
 use Rattle.float64.specs.Arithmetic.{_⊕_, _⊖_, _⊗_, _⊘_}
 use Rattle.float64.specs.Choice.{maxOf, absOf}
 use Rattle.float64.specs.Root.{rootOf}
@@ -13,7 +13,7 @@ use Rattle.fault_circuit.specs.declared.parameters.RlcParameters.{RlcPar
 use Rattle.fault_circuit.specs.declared.circuit.Response.{Response}
 use Rattle.fault_circuit.specs.declared.circuit.Response.the-variants.{Underdamped, Overdamped, Critical, Still}
 use Rattle.fault_circuit.specs.declared.circuit.FaultCircuit.{FaultCircuit}
-use Rattle.fault_circuit.specs.Constants.{milli, micro, kilo, nano, pico, groundPart, internalPart}
+use Rattle.fault_circuit.specs.Constants.{groundPart, internalPart}
 use Rattle.fault_circuit.specs.Parameters.{parametersOf}
 
 -- in base units, and what of them divides

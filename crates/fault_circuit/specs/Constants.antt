@@ -4,26 +4,6 @@ use Prim.Native.Nat.{_^_}
 use lib.Ieee.{Float, binary64, ofBits, round}
 use Rattle.float64.specs.Constants.{decimal}
 
--- mH to H, and milliseconds to seconds
-abbrev pub milli : Float
-milli = ofBits binary64 0x3f50_624d_d2f1_a9fc
-
--- µF to F
-abbrev pub micro : Float
-micro = ofBits binary64 0x3eb0_c6f7_a0b5_ed8d
-
--- kV to V, and A to kA as a divisor
-abbrev pub kilo : Float
-kilo = ofBits binary64 0x408f_4000_0000_0000
-
--- what inductance and resistance are raised to where they divide, and so a time constant
-abbrev pub nano : Float
-nano = ofBits binary64 0x3e11_2e0b_e826_d695
-
--- what a capacitance is raised to where it divides; up to it a frequency, and the distance of two roots, counts as none
-abbrev pub pico : Float
-pico = ofBits binary64 0x3d71_9799_812d_ea11
-
 -- the smoothing inductance, in mH
 abbrev pub smoothing : Float
 smoothing = ofBits binary64 0x3ff0_0000_0000_0000
@@ -48,16 +28,11 @@ abbrev pub leastCurrent : Float
 leastCurrent = ofBits binary64 0x3eb0_c6f7_a0b5_ed8d
 
 pub constants-are
-    : (milli ≡ decimal 1 1000)
-    × (micro ≡ decimal 1 (10 ^ 6))
-    × (kilo ≡ decimal 1000 1)
-    × (nano ≡ decimal 1 (10 ^ 9))
-    × (pico ≡ decimal 1 (10 ^ 12))
-    × (smoothing ≡ decimal 1 1)
+    : (smoothing ≡ decimal 1 1)
     × (leastCapacitance ≡ decimal 1 100)
     × (leastCableResistance ≡ decimal 1 100)
     × (groundPart ≡ decimal 5 10)
     × (internalPart ≡ decimal 7 10)
     × (leastCurrent ≡ decimal 1 (10 ^ 6))
 unfolding ofBits round
-constants-are = (refl, refl, refl, refl, refl, refl, refl, refl, refl, refl, refl)
+constants-are = (refl, refl, refl, refl, refl, refl)

@@ -2,7 +2,7 @@
 use mathlib.Core.Bool.{cond}
 use mathlib.Core.List.{List, [], _∷_}
 use lib.Ieee.{Float, lt, neg}
-use Rattle.float64.specs.Constants.{nought}
+use Rattle.float64.specs.Constants.{nought, milli, kilo, pico}
 use Rattle.float64.specs.Arithmetic.{_⊖_, _⊗_, _⊘_}
 use Rattle.float64.specs.Choice.{maxOf, absOf}
 use Rattle.float64.specs.Exponential.{E}
@@ -12,7 +12,7 @@ use Rattle.fault_circuit.specs.declared.parameters.RlcParameters.{RlcPar
 use Rattle.fault_circuit.specs.declared.circuit.Response.{Response}
 use Rattle.fault_circuit.specs.declared.circuit.Response.the-variants.{Underdamped, Overdamped, Critical, Still}
 use Rattle.fault_circuit.specs.declared.circuit.FaultCircuit.{FaultCircuit}
-use Rattle.fault_circuit.specs.Constants.{milli, kilo, pico, leastCurrent}
+use Rattle.fault_circuit.specs.Constants.{leastCurrent}
 use Rattle.fault_circuit.specs.Circuit.{volts, inductance, alpha, omega0Sq, underdamped, omegaD, s1, s2, resistanceFactor, typeFactor}
 
 -- seconds from a moment to t, both in milliseconds; 0 before the moment

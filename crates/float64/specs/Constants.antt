@@ -29,6 +29,29 @@ k700 = ofBits binary64 0x4085_e000_0000_0000
 abbrev pub k1024 : Float
 k1024 = ofBits binary64 0x4090_0000_0000_0000
 
+abbrev pub half : Float
+half = ofBits binary64 0x3fe0_0000_0000_0000
+
+-- of a unit
+abbrev pub kilo : Float
+kilo = ofBits binary64 0x408f_4000_0000_0000
+
+abbrev pub milli : Float
+milli = ofBits binary64 0x3f50_624d_d2f1_a9fc
+
+abbrev pub micro : Float
+micro = ofBits binary64 0x3eb0_c6f7_a0b5_ed8d
+
+abbrev pub nano : Float
+nano = ofBits binary64 0x3e11_2e0b_e826_d695
+
+abbrev pub pico : Float
+pico = ofBits binary64 0x3d71_9799_812d_ea11
+
+pub parts-are : (half ≡ decimal 1 2) × (kilo ≡ decimal 1000 1) × (milli ≡ decimal 1 1000) × (micro ≡ decimal 1 (10 ^ 6)) × (nano ≡ decimal 1 (10 ^ 9)) × (pico ≡ decimal 1 (10 ^ 12))
+unfolding ofBits round
+parts-are = (refl, refl, refl, refl, refl, refl)
+
 -- the whole numbers
 pub whole-are : (nought ≡ decimal 0 1) × (one ≡ decimal 1 1) × (two ≡ decimal 2 1) × (k180 ≡ decimal 180 1) × (k700 ≡ decimal 700 1) × (k1024 ≡ decimal 1024 1)
 unfolding ofBits round

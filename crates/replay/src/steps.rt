@@ -10,7 +10,7 @@ use crate::numbers::ROOM;
 use crate::states;
 use grid::DcFaultEvent;
 use grid::DcSwitchingSimulator;
-use transient::Drain;
+use network::Drain;
 
 // A grid, a fault, 1 if it is handed to the step, the step's length in seconds, and a state. The answer is a fault run's refusal, and
 // if it is 0 the new station voltages, station currents and cable currents.
@@ -43,7 +43,7 @@ pub fn answer(lines: &mut [u8; ROOM], answers: &mut [u8; ROOM], c: Cursor) -> Af
     }
     let drain = handed_drain(order[0], g, fault);
     let dt_s = float64::from_bits(order[1]);
-    let next = transient::rk4_step(transient::network_of(g), drain, state, dt_s);
+    let next = transient::rk4_step(network::network_of(g), drain, state, dt_s);
     let y = next.y;
     let station_currents_ka = next.station_currents_ka;
     let n = grids::cut(g.n_stations as u64, 32) as usize;
@@ -55,9 +55,9 @@ pub fn answer(lines: &mut [u8; ROOM], answers: &mut [u8; ROOM], c: Cursor) -> Af
 
 fn handed_drain(handed: u64, g: DcSwitchingSimulator, fault: DcFaultEvent) -> Drain {
     if handed == 1 {
-        return transient::drain_of(g, fault);
+        return network::drain_of(g, fault);
     }
-    transient::no_drain()
+    network::no_drain()
 }
 
 // n entries from the first on.

@@ -8,8 +8,8 @@ use grid::DcFaultEvent;
 use grid::DcFaultType;
 use grid::present;
 use transient::DcTransientState;
-use transient::drain_of;
-use transient::network_of;
+use network::drain_of;
+use network::network_of;
 use transient::rk4_step;
 
 // Makes `count` steps of a microsecond, each from the state that the one before it led to, with a fault on the first cable. Adds up

@@ -18,10 +18,10 @@ use Rattle.float64.specs.Arithmetic.{of}
 use Rattle.float64.specs.Choice.{maxOf}
 use Rattle.float64.proofs.Interval.{max-at-least}
 use Rattle.grid.specs.declared.simulator.DcSwitchingSimulator.{DcSwitchingSimulator}
-use Rattle.transient.specs.declared.network.Network.{Network}
-use Rattle.transient.specs.declared.network.Drain.{Drain}
+use Rattle.network.specs.declared.network.Network.{Network}
+use Rattle.network.specs.declared.network.Drain.{Drain}
 use Rattle.transient.specs.declared.state.DcTransientState.{DcTransientState}
-use Rattle.transient.specs.Network.{stationCount, cableCount, end, networkOf}
+use Rattle.network.specs.Network.{stationCount, cableCount, end, networkOf}
 use Rattle.transient.specs.Derivatives.{net, derivative, derivatives}
 use Rattle.transient.specs.Rk4.{blended, rk4, stationsIn, cablesIn, slopes, raised, newState, rk4Step}
 use Rattle.transient.specs.OfGrid.{fromOf, toOf, resistanceOf, inductanceOf, capacitanceOf, gridDerivative}

@@ -14,10 +14,10 @@ use Rattle.grid.specs.declared.parts.ConverterStation.{ConverterStation}
 use Rattle.grid.specs.declared.parts.DcCable.{DcCable}
 use Rattle.grid.specs.declared.parts.DcFaultEvent.{DcFaultEvent}
 use Rattle.grid.specs.declared.simulator.DcSwitchingSimulator.{DcSwitchingSimulator}
-use Rattle.transient.specs.declared.network.Drain.{Drain}
+use Rattle.network.specs.declared.network.Drain.{Drain}
 use Rattle.transient.specs.declared.state.DcTransientState.{DcTransientState}
-use Rattle.transient.specs.Capacitance.{ownCapacitance, joinedCapacitance, capacitanceAt}
-use Rattle.transient.specs.Network.{networkOf, noDrain, drainOf}
+use Rattle.network.specs.Capacitance.{ownCapacitance, joinedCapacitance, capacitanceAt}
+use Rattle.network.specs.Network.{networkOf, noDrain, drainOf}
 use Rattle.transient.specs.Derivatives.{derivatives}
 use Rattle.transient.specs.Rk4.{ahead, blended, rk4, raised, newState, rk4Step}
 

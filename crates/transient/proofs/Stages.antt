@@ -15,8 +15,8 @@ use Rattle.lists.proofs.Fills.{over-each, over-longer, over-within, blank-padde
 use Rattle.float64.specs.Constants.{nought}
 use Rattle.float64.specs.Arithmetic.{_⊘_, of}
 use Rattle.float64.specs.Choice.{maxOf}
-use Rattle.transient.specs.declared.network.Drain.{Drain}
-use Rattle.transient.specs.declared.network.Network.{Network}
+use Rattle.network.specs.declared.network.Drain.{Drain}
+use Rattle.network.specs.declared.network.Network.{Network}
 use Rattle.transient.specs.Derivatives.{passed, net, drained, cableRate, derivative}
 use Rattle.transient.specs.Rk4.{blended, rk4, stationsIn, cablesIn, slopes, raised, newState}
 

@@ -12,13 +12,13 @@ use denote.Triple.Clauses.{AtExit}
 use Rattle.lists.specs.Tables.{padded}
 use Rattle.float64.specs.Constants.{nought}
 use Rattle.float64.specs.Arithmetic.{of}
-use Rattle.transient.specs.declared.network.Drain.{Drain}
+use Rattle.network.specs.declared.network.Drain.{Drain}
 use Rattle.transient.specs.Rk4.{stationsIn, cablesIn, slopes, rk4}
 use Rattle.transient.specs.OfGrid.{gridDerivative}
 use Rattle.transient.proofs.Claims.{network-claims, step-claims}
-use Rattle.transient.proofs.network.network_of as network-contract
-use Rattle.transient.proofs.network.network_of.Kinds as network-kinds
-use Rattle.transient.proofs.network.network_of.Reads as network-reads
+use Rattle.network.proofs.network_of as network-contract
+use Rattle.network.proofs.network_of.Kinds as network-kinds
+use Rattle.network.proofs.network_of.Reads as network-reads
 use Rattle.transient.proofs.rk4.rk4_step as step-contract
 use Rattle.transient.proofs.rk4.rk4_step.Kinds as step-kinds
 use Rattle.transient.proofs.rk4.rk4_step.Reads as step-reads

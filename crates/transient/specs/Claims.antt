@@ -5,14 +5,14 @@ use mathlib.Core.Bool.{true}
 use mathlib.Core.List.{List}
 use lib.Ieee.{Float, le}
 use Rattle.lists.specs.Tables.{padded}
-use Rattle.float64.specs.Constants.{nought, two}
+use Rattle.float64.specs.Constants.{nought, two, half}
 use Rattle.float64.specs.Arithmetic.{_⊕_, _⊖_, _⊗_, _⊘_, of}
 use Rattle.grid.specs.declared.simulator.DcSwitchingSimulator.{DcSwitchingSimulator}
-use Rattle.transient.specs.declared.network.Network.{Network}
-use Rattle.transient.specs.declared.network.Drain.{Drain}
+use Rattle.network.specs.declared.network.Network.{Network}
+use Rattle.network.specs.declared.network.Drain.{Drain}
 use Rattle.transient.specs.declared.state.DcTransientState.{DcTransientState}
-use Rattle.transient.specs.Constants.{half, six}
-use Rattle.transient.specs.Network.{networkOf, noDrain}
+use Rattle.network.specs.Constants.{six}
+use Rattle.network.specs.Network.{networkOf, noDrain}
 use Rattle.transient.specs.Derivatives.{net, drainCurrent, drained}
 use Rattle.transient.specs.Rk4.{ahead, rk4, stationsIn, cablesIn, slopes, rk4Step}
 use Rattle.transient.specs.OfGrid.{fromOf, toOf, gridDerivative}

@@ -6,11 +6,10 @@ use mathlib.Core.List.{List}
 use lib.Dec.{eqb, ltb}
 use lib.Ieee.{Float}
 use Rattle.lists.specs.Tables.{padded}
-use Rattle.float64.specs.Constants.{nought}
+use Rattle.float64.specs.Constants.{nought, kilo}
 use Rattle.float64.specs.Arithmetic.{_⊕_, _⊖_, _⊗_, _⊘_, of}
 use Rattle.grid.specs.Cables.{cut}
-use Rattle.transient.specs.declared.network.Drain.{Drain}
-use Rattle.transient.specs.Constants.{thousand}
+use Rattle.network.specs.declared.network.Drain.{Drain}
 
 -- What a cable's current x makes of the sum s at station i: it comes in at the cable's second end, else it goes out at its first.
 abbrev pub passed : ℕ → ℕ → Float → ℕ → Float → Float
@@ -23,7 +22,7 @@ net from to n y (suc k) i = passed (from k) (to k) (of y (n + k)) i (net from to
 
 -- V·1e3/(R·1e3), scaled by the fraction
 abbrev pub drainCurrent : Drain → Float → Float
-drainCurrent d v = v ⊗ thousand ⊘ d .resistance ⊗ d .fraction
+drainCurrent d v = v ⊗ kilo ⊘ d .resistance ⊗ d .fraction
 
 -- The drain applies to both ends of the faulted cable.
 abbrev pub drained : Drain → List Float → ℕ → Float → Float

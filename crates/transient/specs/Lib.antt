@@ -1,6 +1,3 @@
-pub mod Constants
-pub mod Capacitance
-pub mod Network
 pub mod Derivatives
 pub mod Rk4
 pub mod OfGrid

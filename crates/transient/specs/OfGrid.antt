@@ -8,8 +8,8 @@ use Rattle.grid.specs.Cables.{resistance}
 use Rattle.grid.specs.declared.parts.ConverterStation.{ConverterStation}
 use Rattle.grid.specs.declared.parts.DcCable.{DcCable}
 use Rattle.grid.specs.declared.simulator.DcSwitchingSimulator.{DcSwitchingSimulator}
-use Rattle.transient.specs.declared.network.Drain.{Drain}
-use Rattle.transient.specs.Network.{inductance, farads}
+use Rattle.network.specs.declared.network.Drain.{Drain}
+use Rattle.network.specs.Network.{inductance, farads}
 use Rattle.transient.specs.Derivatives.{derivative}
 
 module _ (g : DcSwitchingSimulator) where

@@ -5,14 +5,14 @@ use mathlib.Core.List.{List}
 use lib.Dec.{ltb}
 use lib.Ieee.{Float}
 use Rattle.lists.specs.Tables.{padded}
-use Rattle.float64.specs.Constants.{nought, two}
+use Rattle.float64.specs.Constants.{nought, two, half}
 use Rattle.float64.specs.Arithmetic.{_⊕_, _⊗_, _⊘_, of}
 use Rattle.float64.specs.Choice.{maxOf}
-use Rattle.transient.specs.declared.network.Network.{Network}
-use Rattle.transient.specs.declared.network.Drain.{Drain}
+use Rattle.network.specs.declared.network.Network.{Network}
+use Rattle.network.specs.declared.network.Drain.{Drain}
 use Rattle.transient.specs.declared.state.DcTransientState.{DcTransientState}
-use Rattle.transient.specs.Constants.{half, six}
-use Rattle.transient.specs.Network.{stationCount, cableCount, end}
+use Rattle.network.specs.Constants.{six}
+use Rattle.network.specs.Network.{stationCount, cableCount, end}
 use Rattle.transient.specs.Derivatives.{net, derivatives}
 
 -- y + h·k, of a state of `size` numbers

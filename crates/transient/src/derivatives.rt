@@ -7,9 +7,9 @@ ghost use lib.Ieee.{nan};
 ghost use Rattle.lists.specs.Tables.{blank, over, padded};
 ghost use Rattle.float64.specs.Constants.{nought};
 ghost use Rattle.float64.specs.Arithmetic.{of, _⊖_, _⊗_, _⊘_};
-ghost use Rattle.transient.specs.Network.{end};
+ghost use Rattle.network.specs.Network.{end};
 ghost use Rattle.transient.specs.Derivatives.{passed, net, drainCurrent, drained, cableRate, derivatives};
-use crate::network::Drain;
+use network::Drain;
 use grid::cut_end;
 
 // A cable in a stage.

@@ -1,5 +1,5 @@
 -- `cable_rates` meets its contract. Assumes nothing.
-use Rattle.transient.specs.Network.{end}
+use Rattle.network.specs.Network.{end}
 use Prim.Native.Nat.{_<_, ℕ, _-_, _+_, _≤_}
 use Rattle.transient.proofs.Stages.{after}
 use lib.Ieee.{Float, nan}

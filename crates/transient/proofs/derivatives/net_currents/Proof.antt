@@ -1,5 +1,5 @@
 -- `net_currents` meets its contract. Assumes nothing.
-use Rattle.transient.specs.Network.{end}
+use Rattle.network.specs.Network.{end}
 use Rattle.transient.proofs.Stages.{nets, nets-none, nets-more}
 use Rattle.transient.specs.Derivatives.{net}
 use Rattle.float64.specs.Constants.{nought}

@@ -1,6 +1,6 @@
 -- `state_derivatives` meets its contract. Assumes nothing.
 use Rattle.float64.specs.Arithmetic.{of}
-use Rattle.transient.specs.Network.{end}
+use Rattle.network.specs.Network.{end}
 use Rattle.transient.specs.Derivatives.{net, drained, derivatives}
 use Rattle.float64.specs.Constants.{nought}
 use Rattle.lists.specs.Tables.{padded, blank}

@@ -1,0 +1,68 @@
+-- `joined_capacitance` meets its contract. Assumes nothing.
+use mathlib.Core.Path.{_≡_, refl, sym, _∙_}
+use Rattle.network.specs.Capacitance.{withCable, joinedCapacitance}
+use Rattle.float64.specs.Constants.{nought}
+use Rattle.lists.proofs.Scanning.{unmapped}
+use Rattle.lists.proofs.Folds.{fold-more}
+use Rattle.lists.proofs.Counting.{at-end}
+use lib.ListN.{length, take}
+use native.Mathlib.Omega.{arith}
+use Prim.Native.Nat.{_-_, _≤_}
+use mathlib.Core.List.{foldl}
+use borrow.Author.Needs.{needs}
+use Rattle.network.proofs.capacitance.joined_capacitance.Statement.{statement}
+use Rattle.network.proofs.capacitance.joined_capacitance.Tie as tie
+
+abbrev Inv-loop : tie.InvT-loop
+Inv-loop id n-cables cables joined₀ i₀ joined i = (i ≤ n-cables) × (joined ≡ foldl (withCable id) nought (take i cables))
+
+abbrev μ-loop : tie.MeasureT-loop
+μ-loop id n-cables cables joined₀ i₀ joined i = n-cables - i
+
+long : (c : tie.Start Inv-loop μ-loop) → length (c .args .t2) ≡ 64
+long c = search (needs, unmapped)
+
+loop-holds : tie.Need-loop-holds Inv-loop μ-loop
+loop-holds c = (omega arith, refl)
+
+mul-c : tie.Need-mul-c Inv-loop μ-loop
+mul-c c = search needs
+
+array-copy-out-c : tie.Need-array-copy-out-c Inv-loop μ-loop
+array-copy-out-c c = search needs
+
+with-cable-requires : tie.Need-with-cable-requires Inv-loop μ-loop
+with-cable-requires c κs = search needs
+
+add-i : tie.Need-add-i Inv-loop μ-loop
+add-i c = search needs
+
+loop-less : tie.Need-loop-less Inv-loop μ-loop
+loop-less c = search needs
+
+loop-again : tie.Need-loop-again Inv-loop μ-loop
+loop-again c =
+    let l = c .before .before .before in
+    let a = l .before .args in
+    (omega arith, c .with-cable .ensures ∙ rw (l .loop .inv .1) (sym (fold-more (withCable (a .id)) nought _ (a .t2) (l .loop .i) (omega (arith, long (l .before), l .before .pre)))))
+
+returns : tie.Need-returns Inv-loop μ-loop
+unfolding joinedCapacitance
+returns c =
+    let a = c .before .before .args in
+    at-end (λ k. foldl (withCable (a .id)) nought (take k (a .t2))) (c .before .loop .inv .0) (c .loop-test .left) (c .before .loop .inv .1)
+
+pub joined-capacitance-spec : {M : Type 1} → statement M
+joined-capacitance-spec =
+    tie.close
+    (tie.spec
+    Inv-loop
+    μ-loop
+    loop-holds
+    mul-c
+    array-copy-out-c
+    with-cable-requires
+    add-i
+    loop-less
+    loop-again
+    returns)

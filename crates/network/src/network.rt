@@ -1,0 +1,151 @@
+// What every stage of a step needs of a grid and of a fault, computed once.
+ghost use mathlib.Core.Path.{_≡_};
+ghost use Prim.Native.Nat.{_≤_};
+ghost use lib.ListN.{take};
+ghost use Rattle.lists.specs.Tables.{blank};
+ghost use Rattle.float64.specs.Constants.{nought};
+ghost use Rattle.grid.specs.Cables.{resistance};
+ghost use Rattle.network.specs.Network.{inductance, farads, cableTable, endTable, stationTable, networkOf, drainOf, noDrain};
+use crate::capacitance::capacitance_with;
+use crate::capacitance::joined_capacitance;
+use float64::max;
+use grid::ConverterStation;
+use grid::DcCable;
+use grid::DcFaultEvent;
+use grid::DcSwitchingSimulator;
+use grid::cable_resistance;
+use grid::present;
+
+// A grid as the stages see it, in arrays that can be lent.
+pub struct Network {
+    pub n_stations: usize,
+    pub n_cables: usize,
+    pub from: [usize; 64],
+    pub to: [usize; 64],
+    pub resistance_ohm: [f64; 64],
+    pub inductance_h: [f64; 64],
+    pub capacitance_f: [f64; 32],
+}
+
+// What a fault drains from the stations at both ends of its cable.
+pub struct Drain {
+    pub from: usize,
+    pub to: usize,
+    // A thousand times the fault's own, as 000 divides by it.
+    pub resistance: f64,
+    pub fraction: f64,
+}
+
+// Past every station.
+const NOWHERE: usize = 32;
+
+pub fn network_of(g: DcSwitchingSimulator) -> Network
+    ensures { λ r. ⌜ r ≡ networkOf g ⌝ }
+{
+    let n_stations = present(g.n_stations, 32);
+    let n_cables = present(g.n_cables, 64);
+    let stations = g.stations;
+    let cables = g.cables;
+    let mut from = [0; 64];
+    let mut to = [0; 64];
+    read_ends(&mut from, &mut to, cables, n_cables);
+    let mut r = [0.0; 64];
+    let mut l = [0.0; 64];
+    read_impedances(&mut r, &mut l, cables, n_cables);
+    let mut c = [0.0; 32];
+    read_capacitances(&mut c, stations, n_stations, cables, n_cables);
+    Network {
+        n_stations,
+        n_cables,
+        from,
+        to,
+        resistance_ohm: r,
+        inductance_h: l,
+        capacitance_f: c,
+    }
+}
+
+// The numbers of both ends of each cable as given, into zeros.
+fn read_ends(from: &mut [usize; 64], to: &mut [usize; 64], cables: [DcCable; 64], n_cables: usize)
+    requires { ⌜ («n_cables» ≤ 64) × (from .now ≡ blank 64 0) × (to .now ≡ blank 64 0) ⌝ }
+    ensures { λ _. ⌜ (now (from .exit) ≡ endTable cables «n_cables» (λ c. c .«from_station»)) × (now (to .exit) ≡ endTable cables «n_cables» (λ c. c .«to_station»)) ⌝ }
+{
+    let mut i = 0;
+    while i < n_cables {
+        let c = cables[i];
+        from[i] = c.from_station as usize;
+        to[i] = c.to_station as usize;
+        i += 1;
+    }
+}
+
+// The total resistance and inductance of each cable, into zeros.
+fn read_impedances(r: &mut [f64; 64], l: &mut [f64; 64], cables: [DcCable; 64], n_cables: usize)
+    requires { ⌜ («n_cables» ≤ 64) × (r .now ≡ blank 64 nought) × (l .now ≡ blank 64 nought) ⌝ }
+    ensures { λ _. ⌜ (now (r .exit) ≡ cableTable cables «n_cables» resistance) × (now (l .exit) ≡ cableTable cables «n_cables» inductance) ⌝ }
+{
+    let mut i = 0;
+    while i < n_cables {
+        let c = cables[i];
+        r[i] = cable_resistance(c);
+        l[i] = cable_inductance(c);
+        i += 1;
+    }
+}
+
+// In henries, from millihenries per km.
+fn cable_inductance(c: DcCable) -> f64
+    ensures { λ r. ⌜ r ≡ inductance c ⌝ }
+{
+    max(c.l_per_km * c.length_km * 0.001, 0.000000001)
+}
+
+// The capacitance at each station in farads, into zeros.
+fn read_capacitances(
+    c: &mut [f64; 32],
+    stations: [ConverterStation; 32],
+    n_stations: usize,
+    cables: [DcCable; 64],
+    n_cables: usize,
+)
+    requires { ⌜ («n_stations» ≤ 32) × («n_cables» ≤ 64) × (c .now ≡ blank 32 nought) ⌝ }
+    ensures { λ _. ⌜ now (c .exit) ≡ stationTable stations «n_stations» (farads (take «n_cables» cables)) ⌝ }
+{
+    let mut i = 0;
+    while i < n_stations {
+        let s = stations[i];
+        let joined = joined_capacitance(s.id, cables, n_cables);
+        c[i] = max(capacitance_with(s, joined) * 0.000001, 0.000000000001);
+        i += 1;
+    }
+}
+
+// A fault on a cable that the grid does not have drains nothing.
+pub fn drain_of(g: DcSwitchingSimulator, fault: DcFaultEvent) -> Drain
+    ensures { λ r. ⌜ r ≡ drainOf g fault ⌝ }
+{
+    let k = fault.location_cable_id as usize;
+    if k < present(g.n_cables, 64) {
+        let cables = g.cables;
+        let c = cables[k];
+        return Drain {
+            from: c.from_station as usize,
+            to: c.to_station as usize,
+            resistance: max(fault.fault_resistance, 0.000001) * 1000.0,
+            fraction: fault.location_fraction,
+        };
+    }
+    no_drain()
+}
+
+// For a step without a fault.
+pub fn no_drain() -> Drain
+    ensures { λ r. ⌜ r ≡ noDrain ⌝ }
+{
+    Drain {
+        from: NOWHERE,
+        to: NOWHERE,
+        resistance: 0.0,
+        fraction: 0.0,
+    }
+}
