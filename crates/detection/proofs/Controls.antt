@@ -2,8 +2,8 @@
 use Prim.Native.Nat.{ℕ}
 use mathlib.Core.Path.{_≡_, refl}
 use mathlib.Core.Bool.{true, false}
-use mathlib.Core.List.{List, [], _∷_}
-use lib.Ieee.{Float, nan, binary64, ofBits, ofInt, round, neg, add, sub, mul, div, lt, le, eq, isNan}
+use mathlib.Core.List.{[], _∷_}
+use lib.Ieee.{Float, nan, ofBits, ofInt, round, neg, add, sub, mul, div, lt, le, eq, isNan}
 use Rattle.float64.specs.Constants.{nought, decimal}
 use Rattle.float64.specs.Choice.{maxOf, absOf}
 use Rattle.grid.specs.Simulator.{blankStation}

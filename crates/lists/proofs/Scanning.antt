@@ -121,3 +121,8 @@ module _ (f : ℕ → Bool) where
   -- one more that does not
   pub some-none : (i : ℕ) → some i f ≡ false → f i ≡ false → some (i + 1) f ≡ false
   some-none i p h = rw (add-one, p, h)
+
+-- two tests that agree below the count
+pub some-same : (f g : ℕ → Bool) (n : ℕ) → ((k : ℕ) → k < n → f k ≡ g k) → some n f ≡ some n g
+some-same f g zero h = refl
+some-same f g (suc n) h = rw (some-same f g n (λ k l. h k (omega arith)), h n (omega arith))

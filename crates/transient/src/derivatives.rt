@@ -9,8 +9,8 @@ ghost use Rattle.float64.specs.Constants.{nought};
 ghost use Rattle.float64.specs.Arithmetic.{of, _⊖_, _⊗_, _⊘_};
 ghost use Rattle.network.specs.Network.{end};
 ghost use Rattle.transient.specs.Derivatives.{passed, net, drainCurrent, drained, cableRate, derivatives};
-use network::Drain;
 use grid::cut_end;
+use network::Drain;
 
 // A cable in a stage.
 struct CableStage {

@@ -11,11 +11,11 @@ ghost use Rattle.transient.specs.Derivatives.{derivatives};
 ghost use Rattle.transient.specs.Rk4.{ahead, blended, weighted, rk4, rk4Step};
 use crate::derivatives::net_currents;
 use crate::derivatives::state_derivatives;
-use network::Drain;
-use network::Network;
 use crate::state::DcTransientState;
 use float64::max;
 use grid::present;
+use network::Drain;
+use network::Network;
 
 // The slopes of one number of the state.
 struct Slopes {
