@@ -36,5 +36,5 @@ detection-claims =
       refused = λ g s before h. rw (ne-eqb (detectionRefusal g) 0 h);
       up-to-counts = λ g s t before past a b. rw (same-currents g s t before past a b, same-voltages g s t before past a b);
       current = λ g s before k l h. rw (some-found (fastCable (g .«n_stations») (timeBetween (s .«time_ms») (before .«time_ms»)) (s .y) (before .y)) (g .«n_cables») k l h);
-      voltage = λ g s before i l h. or-second _ _ (some-found (lowStation (g .stations) (s .y)) (g .«n_stations») i l h);
+      voltage = λ g s before i l h. or-second (some (g .«n_cables») (fastCable (g .«n_stations») (timeBetween (s .«time_ms») (before .«time_ms»)) (s .y) (before .y))) (some (g .«n_stations») (lowStation (g .stations) (s .y))) (some-found (lowStation (g .stations) (s .y)) (g .«n_stations») i l h);
     }
