@@ -28,7 +28,7 @@ use Rattle.fault_circuit.specs.declared.circuit.FaultCircuit.{FaultCircu
 use Rattle.fault_circuit.specs.Parameters.{parametersOf}
 use Rattle.fault_circuit.specs.Circuit.{alpha, omega0Sq, underdamped, omegaD, s1, s2, underdampedResponse, overdampedResponse, responseOf, resistanceFactor, typeFactor, circuitAt, circuitOf}
 use Rattle.fault_circuit.specs.Current.{secondsSince, amperesBy, amperes, currentBy, currentOf, decayedBy, decayedOf, duringFault, exponents, rlcAmperes}
-use Rattle.fault_circuit.specs.Claims.{CurrentClaims, OneOn, isTime, neverPositive, inUnit, timeOfStep, ExponentClaims, InRanges, RangeClaims}
+use Rattle.fault_circuit.specs.Claims.{CurrentClaims, OneOn, isTime, neverPositive, inUnit, timeOfStep, ExponentClaims, InRanges, InRangesClaims}
 use Rattle.fault_circuit.proofs.Ranges.{ranged}
 use Rattle.fault_circuit.proofs.Accepted.{of-fault, of-sweep, step-time}
 use Rattle.fault_circuit.proofs.Exponents.{seconds, never-during, never-after}
@@ -83,8 +83,8 @@ in-unit x h =
     let b = E-between x (subst T (sym h) tt) in
     both (le nought (E x)) (le (E x) one) (is-true (le nought (E x)) (b .0)) (is-true (le (E x) one) (b .1))
 
-pub range-claims : RangeClaims
-range-claims = record { of-fault = of-fault; of-sweep = of-sweep; never-positive = never; step-time = step-time }
+pub in-ranges-claims : InRangesClaims
+in-ranges-claims = record { of-fault = of-fault; of-sweep = of-sweep; never-positive = never; step-time = step-time }
 
 at-steps : (g : DcSwitchingSimulator) (f : DcFaultEvent) → faultRefusal g f ≡ 0 → (j k : ℕ) → j < stepsOf g → k < stepsOf g → every neverPositive (exponents (circuitOf g f) (timeOfStep g j) (timeOfStep g k)) ≡ true
 at-steps g f h j k J K = let s = of-fault g f h in never g f s _ _ (step-time g f s j J) (step-time g f s k K)

@@ -73,7 +73,7 @@ pub record InRanges (g : DcSwitchingSimulator) (f : DcFaultEvent) : Type 0 where
   pub fraction : realIn range.faultFraction (f .«location_fraction») ≡ true
   pub inception : realIn range.inceptionTime (f .«inception_time_ms») ≡ true
 
-pub record RangeClaims : Type 0 where
+pub record InRangesClaims : Type 0 where
   pub of-fault : (g : DcSwitchingSimulator) (f : DcFaultEvent) → faultRefusal g f ≡ 0 → InRanges g f
   -- the faults of an accepted sweep too
   pub of-sweep : (g : DcSwitchingSimulator) (o : SweepOrder) (f : DcFaultEvent) → sweepRefusal g o ≡ 0 → realIn range.faultFraction (f .«location_fraction») ≡ true → f .«inception_time_ms» ≡ o .«inception_time_ms» → InRanges g f

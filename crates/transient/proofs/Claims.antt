@@ -62,13 +62,13 @@ module _ (g : DcSwitchingSimulator) (few-stations : g .«n_stations» ≤ 32) (f
   unfolding networkOf
   capacitance-is i l = rw stations-are (getD-padded 32 (g .«n_stations») (capacitanceOf g) nought nan i l few-stations)
 
-  stations-in : (d : Drain) → stationsIn (networkOf g) d ≡ g .«n_stations»
+  stations-in : stationsIn (networkOf g) ≡ g .«n_stations»
   unfolding networkOf
-  stations-in d = omega arith
+  stations-in = omega arith
 
-  cables-in : (d : Drain) → cablesIn (networkOf g) d ≡ g .«n_cables»
+  cables-in : cablesIn (networkOf g) ≡ g .«n_cables»
   unfolding networkOf
-  cables-in d = omega arith
+  cables-in = omega arith
 
   net-is : (y : List Float) (i : ℕ) → net (end (networkOf g .from)) (end (networkOf g .to)) (g .«n_stations») y (g .«n_cables») i ≡ net (fromOf g) (toOf g) (g .«n_stations») y (g .«n_cables») i
   net-is y i = net-same (end (networkOf g .from)) (fromOf g) (end (networkOf g .to)) (toOf g) (g .«n_stations») y i (g .«n_cables») from-is to-is
@@ -89,11 +89,11 @@ module _ (g : DcSwitchingSimulator) (few-stations : g .«n_stations» ≤ 32) (f
 
     rates-are : slopes (networkOf g) d y ≡ padded 96 (g .«n_stations» + g .«n_cables») (gridDerivative g d y) nought
     unfolding by-tables derivatives
-    rates-are = rw (stations-in d, cables-in d) (padded-same 96 (g .«n_stations» + g .«n_cables») by-tables (gridDerivative g d y) nought rate-is)
+    rates-are = rw (stations-in, cables-in) (padded-same 96 (g .«n_stations» + g .«n_cables») by-tables (gridDerivative g d y) nought rate-is)
 
   currents-are : (d : Drain) (s : DcTransientState) (dt : Float) → let r = rk4Step (networkOf g) d s dt in r .«station_currents_ka» ≡ padded 32 (g .«n_stations») (net (fromOf g) (toOf g) (g .«n_stations») (r .y) (g .«n_cables»)) nought
   unfolding rk4Step
-  currents-are d s dt = rw (stations-in d, cables-in d) (padded-same 32 (g .«n_stations») _ _ nought (λ i l. net-is (newState (networkOf g) d dt (s .y)) i))
+  currents-are d s dt = rw (stations-in, cables-in) (padded-same 32 (g .«n_stations») _ _ nought (λ i l. net-is (newState (networkOf g) d dt (s .y)) i))
 
 pub network-claims : NetworkClaims
 network-claims = record { rates = λ g d y n m. rates-are g n m d y; currents = λ g d s dt n m. currents-are g n m d s dt }
@@ -103,23 +103,23 @@ network-claims = record { rates = λ g d y n m. rates-are g n m d y; currents = 
 module _ (w : Network) (d : Drain) (s : DcTransientState) (dt : Float) where
   -- the step's numbers before the voltages are raised
   numbers : List Float
-  numbers = rk4 (stationsIn w d + cablesIn w d) (slopes w d) dt (s .y)
+  numbers = rk4 (stationsIn w + cablesIn w) (slopes w d) dt (s .y)
 
-  new-is : (i : ℕ) → i < stationsIn w d + cablesIn w d → of (rk4Step w d s dt .y) i ≡ cond (ltb i (stationsIn w d)) (maxOf (of numbers i) nought) (of numbers i)
+  new-is : (i : ℕ) → i < stationsIn w + cablesIn w → of (rk4Step w d s dt .y) i ≡ cond (ltb i (stationsIn w)) (maxOf (of numbers i) nought) (of numbers i)
   unfolding rk4Step newState raised numbers
-  new-is i l = getD-padded 96 (stationsIn w d + cablesIn w d) _ nought nan i l (omega arith)
+  new-is i l = getD-padded 96 (stationsIn w + cablesIn w) _ nought nan i l (omega arith)
 
-  not-below : (i : ℕ) → i < stationsIn w d → le nought (of (rk4Step w d s dt .y) i) ≡ true
+  not-below : (i : ℕ) → i < stationsIn w → le nought (of (rk4Step w d s dt .y) i) ≡ true
   unfolding isNan ofBits
-  not-below i l = rw (new-is i (omega arith), lt-ltb i (stationsIn w d) l) (is-true (le nought (maxOf (of numbers i) nought)) (max-at-least (of numbers i) nought tt))
+  not-below i l = rw (new-is i (omega arith), lt-ltb i (stationsIn w) l) (is-true (le nought (maxOf (of numbers i) nought)) (max-at-least (of numbers i) nought tt))
 
-  own-current : (k : ℕ) → k < cablesIn w d → of (rk4Step w d s dt .y) (stationsIn w d + k) ≡ of (rk4 (stationsIn w d + cablesIn w d) (slopes w d) dt (s .y)) (stationsIn w d + k)
+  own-current : (k : ℕ) → k < cablesIn w → of (rk4Step w d s dt .y) (stationsIn w + k) ≡ of (rk4 (stationsIn w + cablesIn w) (slopes w d) dt (s .y)) (stationsIn w + k)
   unfolding numbers
-  own-current k l = rw (new-is (stationsIn w d + k) (omega arith), le-ltb (stationsIn w d + k) (stationsIn w d) (omega arith))
+  own-current k l = rw (new-is (stationsIn w + k) (omega arith), le-ltb (stationsIn w + k) (stationsIn w) (omega arith))
 
-  past-zero : (i : ℕ) → stationsIn w d + cablesIn w d ≤ i → i < 96 → of (rk4Step w d s dt .y) i ≡ nought
+  past-zero : (i : ℕ) → stationsIn w + cablesIn w ≤ i → i < 96 → of (rk4Step w d s dt .y) i ≡ nought
   unfolding rk4Step newState raised
-  past-zero i l h = getD-rest 96 (stationsIn w d + cablesIn w d) _ nought nan i l h
+  past-zero i l h = getD-rest 96 (stationsIn w + cablesIn w) _ nought nan i l h
 
 pub step-claims : StepClaims
 unfolding rk4 blended

@@ -57,6 +57,6 @@ module _ (from to : ℕ → ℕ) (n : ℕ) (y : List Float) where
       rates-joined = over-longer 96 n (n + m) (λ i. of x i ⊘ c i) _ nought nan (omega arith) ∙ padded-same 96 (n + m) _ (derivative from to r l c d n m y) nought at-rate
 
 -- the step's numbers with their voltages raised
-pub rk4-raised : (w : Network) (d : Drain) (dt : Float) (y : List Float) → let n = stationsIn w d in let x = rk4 (n + cablesIn w d) (slopes w d) dt y in over n (λ i. maxOf (of x i) nought) nan x ≡ newState w d dt y
+pub rk4-raised : (w : Network) (d : Drain) (dt : Float) (y : List Float) → let n = stationsIn w in let x = rk4 (n + cablesIn w) (slopes w d) dt y in over n (λ i. maxOf (of x i) nought) nan x ≡ newState w d dt y
 unfolding rk4 blended raised newState
-rk4-raised w d dt y = over-within 96 (stationsIn w d) (stationsIn w d + cablesIn w d) _ _ nought nan (omega arith)
+rk4-raised w d dt y = over-within 96 (stationsIn w) (stationsIn w + cablesIn w) _ _ nought nan (omega arith)

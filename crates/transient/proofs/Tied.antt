@@ -36,10 +36,10 @@ module _ (κs : Lfts 0) (a : ArgsD step-contract.signature κs) (r : ResD step-c
   pub step-any : step-reads.Asked κs a
   step-any = tt
 
-  pub step-voltages : step-reads.Learnt κs a r e → (i : ℕ) → i < stationsIn (a .0) (a .1 .0) → le nought (of (r .y) i) ≡ true
+  pub step-voltages : step-reads.Learnt κs a r e → (i : ℕ) → i < stationsIn (a .0) → le nought (of (r .y) i) ≡ true
   step-voltages h i l = rw h (step-claims .voltages (a .0) (a .1 .0) (a .1 .1 .0) (a .1 .1 .1 .0) i l)
 
-  pub step-currents : step-reads.Learnt κs a r e → (k : ℕ) → k < cablesIn (a .0) (a .1 .0)
-      → let n = stationsIn (a .0) (a .1 .0) in
-      of (r .y) (n + k) ≡ of (rk4 (n + cablesIn (a .0) (a .1 .0)) (slopes (a .0) (a .1 .0)) (a .1 .1 .1 .0) (a .1 .1 .0 .y)) (n + k)
+  pub step-currents : step-reads.Learnt κs a r e → (k : ℕ) → k < cablesIn (a .0)
+      → let n = stationsIn (a .0) in
+      of (r .y) (n + k) ≡ of (rk4 (n + cablesIn (a .0)) (slopes (a .0) (a .1 .0)) (a .1 .1 .1 .0) (a .1 .1 .0 .y)) (n + k)
   step-currents h k l = rw h (step-claims .cable-currents (a .0) (a .1 .0) (a .1 .1 .0) (a .1 .1 .1 .0) k l)

@@ -34,13 +34,13 @@ pub record StepClaims : Type 0 where
       let k4 = f (ahead size y dt k3) in
       of (rk4 size f dt y) i ≡ of y i ⊕ (dt ⊘ six) ⊗ (of k1 i ⊕ two ⊗ of k2 i ⊕ two ⊗ of k3 i ⊕ of k4 i)
   -- "New voltages are at least 0", of any doubles, NaN among them
-  pub voltages : (w : Network) (d : Drain) (s : DcTransientState) (dt : Float) (i : ℕ) → i < stationsIn w d → le nought (of (rk4Step w d s dt .y) i) ≡ true
+  pub voltages : (w : Network) (d : Drain) (s : DcTransientState) (dt : Float) (i : ℕ) → i < stationsIn w → le nought (of (rk4Step w d s dt .y) i) ≡ true
   -- cable currents are the step's own
-  pub cable-currents : (w : Network) (d : Drain) (s : DcTransientState) (dt : Float) (k : ℕ) → k < cablesIn w d
-      → let n = stationsIn w d in
-      of (rk4Step w d s dt .y) (n + k) ≡ of (rk4 (n + cablesIn w d) (slopes w d) dt (s .y)) (n + k)
+  pub cable-currents : (w : Network) (d : Drain) (s : DcTransientState) (dt : Float) (k : ℕ) → k < cablesIn w
+      → let n = stationsIn w in
+      of (rk4Step w d s dt .y) (n + k) ≡ of (rk4 (n + cablesIn w) (slopes w d) dt (s .y)) (n + k)
   -- what stands past the counts is zero
-  pub past : (w : Network) (d : Drain) (s : DcTransientState) (dt : Float) (i : ℕ) → stationsIn w d + cablesIn w d ≤ i → i < 96 → of (rk4Step w d s dt .y) i ≡ nought
+  pub past : (w : Network) (d : Drain) (s : DcTransientState) (dt : Float) (i : ℕ) → stationsIn w + cablesIn w ≤ i → i < 96 → of (rk4Step w d s dt .y) i ≡ nought
 
 -- "The drain applies to both ends of the faulted cable, scaled by the fraction", and to no other station
 pub record DrainClaims : Type 0 where

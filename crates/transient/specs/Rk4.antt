@@ -36,32 +36,33 @@ rk4 size f dt y =
     let k4 = f (ahead size y dt k3) in
     blended size y (dt ⊘ six) k1 k2 k3 k4
 
-module _ (w : Network) (d : Drain) where
+module _ (w : Network) where
   abbrev pub stationsIn : ℕ
   stationsIn = stationCount (w .«n_stations»)
 
   abbrev pub cablesIn : ℕ
   cablesIn = cableCount (w .«n_cables»)
 
-  -- dy/dt
-  abbrev pub slopes : List Float → List Float
-  slopes = derivatives (end (w .from)) (end (w .to)) (of (w .«resistance_ohm»)) (of (w .«inductance_h»)) (of (w .«capacitance_f»)) d stationsIn cablesIn
-
   -- the numbers of a state with its voltages raised to 0
   unfoldable pub raised : List Float → List Float
   raised y = padded 96 (stationsIn + cablesIn) (λ i. cond (ltb i stationsIn) (maxOf (of y i) nought) (of y i)) nought
 
-  unfoldable pub newState : Float → List Float → List Float
-  newState dt y = raised (rk4 (stationsIn + cablesIn) slopes dt y)
+  module _ (d : Drain) where
+    -- dy/dt
+    abbrev pub slopes : List Float → List Float
+    slopes = derivatives (end (w .from)) (end (w .to)) (of (w .«resistance_ohm»)) (of (w .«inductance_h»)) (of (w .«capacitance_f»)) d stationsIn cablesIn
 
-  -- the state after a step: new voltages and cable currents, station currents from these, all else as it was
-  unfoldable pub rk4Step : DcTransientState → Float → DcTransientState
-  rk4Step s dt =
-      let y = newState dt (s .y) in
-      record {
-        «time_ms» = s .«time_ms»;
-        y = y;
-        «station_currents_ka» = padded 32 stationsIn (net (end (w .from)) (end (w .to)) stationsIn y cablesIn) nought;
-        «fault_current_ka» = s .«fault_current_ka»;
-        «breaker_states» = s .«breaker_states»;
-      }
+    unfoldable pub newState : Float → List Float → List Float
+    newState dt y = raised (rk4 (stationsIn + cablesIn) slopes dt y)
+
+    -- the state after a step: new voltages and cable currents, station currents from these, all else as it was
+    unfoldable pub rk4Step : DcTransientState → Float → DcTransientState
+    rk4Step s dt =
+        let y = newState dt (s .y) in
+        record {
+          «time_ms» = s .«time_ms»;
+          y = y;
+          «station_currents_ka» = padded 32 stationsIn (net (end (w .from)) (end (w .to)) stationsIn y cablesIn) nought;
+          «fault_current_ka» = s .«fault_current_ka»;
+          «breaker_states» = s .«breaker_states»;
+        }
