@@ -15,18 +15,18 @@ use Rattle.fault_circuit.specs.declared.parameters.RlcParameters.{RlcPar
 use Rattle.fault_circuit.specs.Constants.{smoothing, leastCapacitance, leastCableResistance}
 
 -- The cable and the station of a number, cut to the last. Of no cables or no stations, which every fault study refuses, it is the first place of the array.
-abbrev pub cableAt : DcSwitchingSimulator → ℕ → DcCable
-cableAt g k = getD (g .cables) (cut (min (g .«n_cables») 64) k) blankCable
+abbrev pub cutCable : DcSwitchingSimulator → ℕ → DcCable
+cutCable g k = getD (g .cables) (cut (min (g .«n_cables») 64) k) blankCable
 
-abbrev pub stationAt : DcSwitchingSimulator → ℕ → ConverterStation
-stationAt g k = getD (g .stations) (cut (min (g .«n_stations») 32) k) blankStation
+abbrev pub cutStation : DcSwitchingSimulator → ℕ → ConverterStation
+cutStation g k = getD (g .stations) (cut (min (g .«n_stations») 32) k) blankStation
 
 abbrev pub faultedCable : DcSwitchingSimulator → DcFaultEvent → DcCable
-faultedCable g f = cableAt g (f .«location_cable_id»)
+faultedCable g f = cutCable g (f .«location_cable_id»)
 
 -- the converter that feeds the fault stands at the cable's first end
 abbrev pub feedingStation : DcSwitchingSimulator → DcFaultEvent → ConverterStation
-feedingStation g f = stationAt g (faultedCable g f .«from_station»)
+feedingStation g f = cutStation g (faultedCable g f .«from_station»)
 
 -- frac and dist: how far from that end the fault is, in km
 abbrev pub fraction : DcFaultEvent → Float

@@ -9,12 +9,11 @@ use borrow.Author.Tests.{lt-ltb, le-ltb, eq-eqb, ne-eqb}
 use lib.Dec.{ltb, eqb}
 use lib.Ieee.{Float, nan, le, isNan, ofBits}
 use lib.Ieee.Bits.{is-true}
-use Rattle.lists.specs.Tables.{padded}
 use Rattle.lists.proofs.Counting.{lt-or-le}
 use Rattle.lists.proofs.Fills.{getD-padded, getD-rest, padded-same}
 use Rattle.lists.proofs.Scanning.{or-second}
-use Rattle.float64.specs.Constants.{nought}
-use Rattle.float64.specs.Arithmetic.{of}
+use Rattle.float64.specs.Constants.{nought, half}
+use Rattle.float64.specs.Arithmetic.{_⊗_, of}
 use Rattle.float64.specs.Choice.{maxOf}
 use Rattle.float64.proofs.Interval.{max-at-least}
 use Rattle.grid.specs.declared.simulator.DcSwitchingSimulator.{DcSwitchingSimulator}
@@ -23,11 +22,20 @@ use Rattle.network.specs.declared.network.Drain.{Drain}
 use Rattle.transient.specs.declared.state.DcTransientState.{DcTransientState}
 use Rattle.network.specs.Network.{stationCount, cableCount, end, networkOf}
 use Rattle.transient.specs.Derivatives.{net, derivative, derivatives}
-use Rattle.transient.specs.Rk4.{blended, rk4, stationsIn, cablesIn, slopes, raised, newState, rk4Step}
-use Rattle.transient.specs.OfGrid.{fromOf, toOf, resistanceOf, inductanceOf, capacitanceOf, gridDerivative}
+use Rattle.transient.specs.Rk4.{ahead, blended, rk4, raised, newState, stepBy, stationsIn, cablesIn, slopes, rk4Step}
+use Rattle.transient.specs.OfGrid.{fromOf, toOf, resistanceOf, inductanceOf, capacitanceOf, gridDerivatives, gridStep}
 use Rattle.transient.specs.Claims.{NetworkClaims, StepClaims, DrainClaims}
 
 -- ---- the tables hold the grid
+
+-- rates that agree everywhere make the same step
+rk4-same : (size : ℕ) (f h : List Float → List Float) (dt : Float) (y : List Float) → ((x : List Float) → f x ≡ h x) → rk4 size f dt y ≡ rk4 size h dt y
+unfolding rk4
+rk4-same size f h dt y e =
+    let k1 = h y in
+    let k2 = h (ahead size y (half ⊗ dt) k1) in
+    let k3 = h (ahead size y (half ⊗ dt) k2) in
+    rw (e y, e (ahead size y (half ⊗ dt) k1), e (ahead size y (half ⊗ dt) k2), e (ahead size y dt k3))
 
 -- ends that agree up to m
 module _ (from from' to to' : ℕ → ℕ) (n : ℕ) (y : List Float) (i : ℕ) where
@@ -73,13 +81,19 @@ module _ (g : DcSwitchingSimulator) (few-stations : g .«n_stations» ≤ 32) (f
   net-is : (y : List Float) (i : ℕ) → net (end (networkOf g .from)) (end (networkOf g .to)) (g .«n_stations») y (g .«n_cables») i ≡ net (fromOf g) (toOf g) (g .«n_stations») y (g .«n_cables») i
   net-is y i = net-same (end (networkOf g .from)) (fromOf g) (end (networkOf g .to)) (toOf g) (g .«n_stations») y i (g .«n_cables») from-is to-is
 
+  abbrev tableRates : Drain → List Float → List Float
+  tableRates d = derivatives (end (networkOf g .from)) (end (networkOf g .to)) (of (networkOf g .«resistance_ohm»)) (of (networkOf g .«inductance_h»)) (of (networkOf g .«capacitance_f»)) d (g .«n_stations») (g .«n_cables»)
+
   module _ (d : Drain) (y : List Float) where
-    -- one rate by the tables
+    -- one rate by the tables, and by the grid
     by-tables : ℕ → Float
     by-tables = derivative (end (networkOf g .from)) (end (networkOf g .to)) (of (networkOf g .«resistance_ohm»)) (of (networkOf g .«inductance_h»)) (of (networkOf g .«capacitance_f»)) d (g .«n_stations») (g .«n_cables») y
 
-    rate-is : (i : ℕ) → i < g .«n_stations» + g .«n_cables» → by-tables i ≡ gridDerivative g d y i
-    unfolding by-tables
+    by-grid : ℕ → Float
+    by-grid = derivative (fromOf g) (toOf g) (resistanceOf g) (inductanceOf g) (capacitanceOf g) d (g .«n_stations») (g .«n_cables») y
+
+    rate-is : (i : ℕ) → i < g .«n_stations» + g .«n_cables» → by-tables i ≡ by-grid i
+    unfolding by-tables by-grid
     rate-is i h =
         ⊎-elim
         (λ a. rw (lt-ltb i (g .«n_stations») a, net-is y i, capacitance-is i a))
@@ -87,16 +101,25 @@ module _ (g : DcSwitchingSimulator) (few-stations : g .«n_stations» ≤ 32) (f
         rw (le-ltb i (g .«n_stations») b, from-is (i - g .«n_stations») l, to-is (i - g .«n_stations») l, resistance-is (i - g .«n_stations») l, inductance-is (i - g .«n_stations») l))
         (lt-or-le i (g .«n_stations»))
 
-    rates-are : slopes (networkOf g) d y ≡ padded 96 (g .«n_stations» + g .«n_cables») (gridDerivative g d y) nought
-    unfolding by-tables derivatives
-    rates-are = rw (stations-in, cables-in) (padded-same 96 (g .«n_stations» + g .«n_cables») by-tables (gridDerivative g d y) nought rate-is)
+    rates-by-tables : tableRates d y ≡ gridDerivatives g d y
+    unfolding by-tables by-grid derivatives
+    rates-by-tables = padded-same 96 (g .«n_stations» + g .«n_cables») by-tables by-grid nought rate-is
 
-  currents-are : (d : Drain) (s : DcTransientState) (dt : Float) → let r = rk4Step (networkOf g) d s dt in r .«station_currents_ka» ≡ padded 32 (g .«n_stations») (net (fromOf g) (toOf g) (g .«n_stations») (r .y) (g .«n_cables»)) nought
-  unfolding rk4Step
-  currents-are d s dt = rw (stations-in, cables-in) (padded-same 32 (g .«n_stations») _ _ nought (λ i l. net-is (newState (networkOf g) d dt (s .y)) i))
+    rates-are : slopes (networkOf g) d y ≡ gridDerivatives g d y
+    rates-are = rw (stations-in, cables-in) rates-by-tables
+
+  -- a step by the tables' rates, then by the grid's
+  step-is : (d : Drain) (s : DcTransientState) (dt : Float) → rk4Step (networkOf g) d s dt ≡ gridStep g d s dt
+  unfolding stepBy newState
+  step-is d s dt =
+      let n = g .«n_stations» in
+      let m = g .«n_cables» in
+      let same = rk4-same (n + m) (tableRates d) (gridDerivatives g d) dt (s .y) (rates-by-tables d) in
+      let y = newState n m (gridDerivatives g d) dt (s .y) in
+      rw (stations-in, cables-in, same, padded-same 32 n (net (end (networkOf g .from)) (end (networkOf g .to)) n y m) (net (fromOf g) (toOf g) n y m) nought (λ i l. net-is y i))
 
 pub network-claims : NetworkClaims
-network-claims = record { rates = λ g d y n m. rates-are g n m d y; currents = λ g d s dt n m. currents-are g n m d s dt }
+network-claims = record { rates = λ g d y n m. rates-are g n m d y; step = λ g d s dt n m. step-is g n m d s dt }
 
 -- ---- the step
 
@@ -106,7 +129,7 @@ module _ (w : Network) (d : Drain) (s : DcTransientState) (dt : Float) where
   numbers = rk4 (stationsIn w + cablesIn w) (slopes w d) dt (s .y)
 
   new-is : (i : ℕ) → i < stationsIn w + cablesIn w → of (rk4Step w d s dt .y) i ≡ cond (ltb i (stationsIn w)) (maxOf (of numbers i) nought) (of numbers i)
-  unfolding rk4Step newState raised numbers
+  unfolding stepBy newState raised numbers
   new-is i l = getD-padded 96 (stationsIn w + cablesIn w) _ nought nan i l (omega arith)
 
   not-below : (i : ℕ) → i < stationsIn w → le nought (of (rk4Step w d s dt .y) i) ≡ true
@@ -118,7 +141,7 @@ module _ (w : Network) (d : Drain) (s : DcTransientState) (dt : Float) where
   own-current k l = rw (new-is (stationsIn w + k) (omega arith), le-ltb (stationsIn w + k) (stationsIn w) (omega arith))
 
   past-zero : (i : ℕ) → stationsIn w + cablesIn w ≤ i → i < 96 → of (rk4Step w d s dt .y) i ≡ nought
-  unfolding rk4Step newState raised
+  unfolding stepBy newState raised
   past-zero i l h = getD-rest 96 (stationsIn w + cablesIn w) _ nought nan i l h
 
 pub step-claims : StepClaims

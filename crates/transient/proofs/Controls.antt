@@ -19,7 +19,7 @@ use Rattle.transient.specs.declared.state.DcTransientState.{DcTransientS
 use Rattle.network.specs.Capacitance.{ownCapacitance, joinedCapacitance, capacitanceAt}
 use Rattle.network.specs.Network.{networkOf, noDrain, drainOf}
 use Rattle.transient.specs.Derivatives.{derivatives}
-use Rattle.transient.specs.Rk4.{ahead, blended, rk4, raised, newState, rk4Step}
+use Rattle.transient.specs.Rk4.{ahead, blended, rk4, raised, newState, stepBy, rk4Step}
 
 double : ℕ → Float
 double n = ofBits binary64 n
@@ -71,7 +71,7 @@ two-are
     : (numbers two (drainOf two (faultOn 0)) before 3 ≡ double 0x405874350a382bf6 ∷ double 0x406791ac0de6f953 ∷ double 0x3fce107683c1078f ∷ [])
     × (currents two (drainOf two (faultOn 0)) before 2 ≡ double 0xbfce107683c1078f ∷ double 0x3fce107683c1078f ∷ [])
     × (numbers two noDrain before 3 ≡ double 0x4058f977588c5b8a ∷ double 0x4067c137d86f6e9d ∷ double 0x3fce121b6692a06f ∷ [])
-unfolding double station cable grid state two faultOn before numbers currents tab padded ownCapacitance joinedCapacitance networkOf drainOf derivatives ahead blended rk4 raised newState rk4Step maxOf isNan lt eq ofBits ofInt round neg add sub mul div
+unfolding double station cable grid state two faultOn before numbers currents tab padded ownCapacitance joinedCapacitance networkOf drainOf derivatives ahead blended rk4 raised newState stepBy maxOf isNan lt eq ofBits ofInt round neg add sub mul div
 two-are = (refl, refl, refl)
 
 -- Three stations, two of one id and one an MMC of no submodules: two cables side by side, one from a station to itself, one with its second and one with its first end past the count,
@@ -87,7 +87,7 @@ three-are
     × (currents three (drainOf three (faultOn 2)) mixed 3 ≡ double 0x415f50482f8974b8 ∷ double 0x4003efb29c975b56 ∷ double 0xc15f50480713d601 ∷ [])
     × (numbers three (drainOf three (faultOn 3)) mixed 3 ≡ double 0x40fd6d4c21f73ca9 ∷ double 0x4056968ee82b0357 ∷ double 0x0000000000000000 ∷ [])
     × (numbers three (drainOf three (faultOn 9)) mixed 3 ≡ double 0x40fd6d4f7a87cc16 ∷ double 0x4056968ee82b0357 ∷ double 0x0000000000000000 ∷ [])
-unfolding double station cable grid state three faultOn mixed numbers currents tab padded ownCapacitance joinedCapacitance networkOf drainOf derivatives ahead blended rk4 raised newState rk4Step maxOf isNan lt eq ofBits ofInt round neg add sub mul div
+unfolding double station cable grid state three faultOn mixed numbers currents tab padded ownCapacitance joinedCapacitance networkOf drainOf derivatives ahead blended rk4 raised newState stepBy maxOf isNan lt eq ofBits ofInt round neg add sub mul div
 three-are = (refl, refl, refl, refl)
 
 -- an MMC of 2 submodules and 6 µF has 2 µF, and one of none counts as one of 1; half of 3 km at the end that the station's id names

@@ -16,9 +16,8 @@ use Rattle.float64.specs.Constants.{nought}
 use Rattle.float64.specs.Arithmetic.{_⊘_, of}
 use Rattle.float64.specs.Choice.{maxOf}
 use Rattle.network.specs.declared.network.Drain.{Drain}
-use Rattle.network.specs.declared.network.Network.{Network}
 use Rattle.transient.specs.Derivatives.{passed, net, drained, cableRate, derivative}
-use Rattle.transient.specs.Rk4.{blended, rk4, stationsIn, cablesIn, slopes, raised, newState}
+use Rattle.transient.specs.Rk4.{blended, rk4, raised, newState}
 
 -- what stands after the first n
 pub after : (f g : ℕ → Float) (n k : ℕ) → g k ≡ cond (ltb (n + k) n) (f (n + k)) (g (n + k - n))
@@ -57,6 +56,6 @@ module _ (from to : ℕ → ℕ) (n : ℕ) (y : List Float) where
       rates-joined = over-longer 96 n (n + m) (λ i. of x i ⊘ c i) _ nought nan (omega arith) ∙ padded-same 96 (n + m) _ (derivative from to r l c d n m y) nought at-rate
 
 -- the step's numbers with their voltages raised
-pub rk4-raised : (w : Network) (d : Drain) (dt : Float) (y : List Float) → let n = stationsIn w in let x = rk4 (n + cablesIn w) (slopes w d) dt y in over n (λ i. maxOf (of x i) nought) nan x ≡ newState w d dt y
+pub rk4-raised : (n m : ℕ) (f : List Float → List Float) (dt : Float) (y : List Float) → let x = rk4 (n + m) f dt y in over n (λ i. maxOf (of x i) nought) nan x ≡ newState n m f dt y
 unfolding rk4 blended raised newState
-rk4-raised w d dt y = over-within 96 (stationsIn w) (stationsIn w + cablesIn w) _ _ nought nan (omega arith)
+rk4-raised n m f dt y = over-within 96 n (n + m) _ _ nought nan (omega arith)

@@ -3,18 +3,17 @@
 use Prim.Native.Nat.{ℕ, _+_, _≤_, _<_}
 use mathlib.Core.Path.{_≡_}
 use mathlib.Core.Bool.{true}
-use mathlib.Core.List.{List}
 use lib.Ieee.{Float, le}
 use contract.Lifetimes.{Lfts}
 use borrow.Fn.World.{ArgsD, ResD}
 use borrow.Fn.Kinds.{endedOf}
 use denote.Triple.Clauses.{AtExit}
-use Rattle.lists.specs.Tables.{padded}
 use Rattle.float64.specs.Constants.{nought}
 use Rattle.float64.specs.Arithmetic.{of}
 use Rattle.network.specs.declared.network.Drain.{Drain}
-use Rattle.transient.specs.Rk4.{stationsIn, cablesIn, slopes, rk4}
-use Rattle.transient.specs.OfGrid.{gridDerivative}
+use Rattle.transient.specs.declared.state.DcTransientState.{DcTransientState}
+use Rattle.transient.specs.Rk4.{stationsIn, cablesIn, slopes, rk4, rk4Step}
+use Rattle.transient.specs.OfGrid.{gridStep}
 use Rattle.transient.proofs.Claims.{network-claims, step-claims}
 use Rattle.network.proofs.network_of as network-contract
 use Rattle.network.proofs.network_of.Kinds as network-kinds
@@ -27,10 +26,9 @@ module _ (κs : Lfts 0) (a : ArgsD network-contract.signature κs) (r : ResD net
   pub network-any : network-reads.Asked κs a
   network-any = tt
 
-  -- the rates by the network that is returned are the grid's
-  pub network-rates : network-reads.Learnt κs a r e → (d : Drain) (y : List Float) → a .0 .«n_stations» ≤ 32 → a .0 .«n_cables» ≤ 64
-      → slopes r d y ≡ padded 96 (a .0 .«n_stations» + a .0 .«n_cables») (gridDerivative (a .0) d y) nought
-  network-rates h d y n m = rw h (network-claims .rates (a .0) d y n m)
+  -- a step by the network that is returned is the grid's
+  pub network-step : network-reads.Learnt κs a r e → (d : Drain) (s : DcTransientState) (dt : Float) → a .0 .«n_stations» ≤ 32 → a .0 .«n_cables» ≤ 64 → rk4Step r d s dt ≡ gridStep (a .0) d s dt
+  network-step h d s dt n m = rw h (network-claims .step (a .0) d s dt n m)
 
 module _ (κs : Lfts 0) (a : ArgsD step-contract.signature κs) (r : ResD step-contract.signature κs) (e : AtExit (endedOf 0 step-kinds.ps step-kinds.r) κs) where
   pub step-any : step-reads.Asked κs a

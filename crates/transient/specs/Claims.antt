@@ -4,7 +4,6 @@ use mathlib.Core.Path.{_≡_}
 use mathlib.Core.Bool.{true}
 use mathlib.Core.List.{List}
 use lib.Ieee.{Float, le}
-use Rattle.lists.specs.Tables.{padded}
 use Rattle.float64.specs.Constants.{nought, two, half}
 use Rattle.float64.specs.Arithmetic.{_⊕_, _⊖_, _⊗_, _⊘_, of}
 use Rattle.grid.specs.declared.simulator.DcSwitchingSimulator.{DcSwitchingSimulator}
@@ -13,17 +12,14 @@ use Rattle.network.specs.declared.network.Drain.{Drain}
 use Rattle.transient.specs.declared.state.DcTransientState.{DcTransientState}
 use Rattle.network.specs.Constants.{six}
 use Rattle.network.specs.Network.{networkOf, noDrain}
-use Rattle.transient.specs.Derivatives.{net, drainCurrent, drained}
+use Rattle.transient.specs.Derivatives.{drainCurrent, drained}
 use Rattle.transient.specs.Rk4.{ahead, rk4, stationsIn, cablesIn, slopes, rk4Step}
-use Rattle.transient.specs.OfGrid.{fromOf, toOf, gridDerivative}
+use Rattle.transient.specs.OfGrid.{gridDerivatives, gridStep}
 
--- what is worked out once for a grid changes no rate and no current
+-- what is worked out once for a grid changes no rate and no step
 pub record NetworkClaims : Type 0 where
-  pub rates : (g : DcSwitchingSimulator) (d : Drain) (y : List Float) → g .«n_stations» ≤ 32 → g .«n_cables» ≤ 64
-      → slopes (networkOf g) d y ≡ padded 96 (g .«n_stations» + g .«n_cables») (gridDerivative g d y) nought
-  pub currents : (g : DcSwitchingSimulator) (d : Drain) (s : DcTransientState) (dt : Float) → g .«n_stations» ≤ 32 → g .«n_cables» ≤ 64
-      → let r = rk4Step (networkOf g) d s dt in
-      r .«station_currents_ka» ≡ padded 32 (g .«n_stations») (net (fromOf g) (toOf g) (g .«n_stations») (r .y) (g .«n_cables»)) nought
+  pub rates : (g : DcSwitchingSimulator) (d : Drain) (y : List Float) → g .«n_stations» ≤ 32 → g .«n_cables» ≤ 64 → slopes (networkOf g) d y ≡ gridDerivatives g d y
+  pub step : (g : DcSwitchingSimulator) (d : Drain) (s : DcTransientState) (dt : Float) → g .«n_stations» ≤ 32 → g .«n_cables» ≤ 64 → rk4Step (networkOf g) d s dt ≡ gridStep g d s dt
 
 pub record StepClaims : Type 0 where
   -- "Classical RK4, 1/6 (k1+2k2+2k3+k4)", each number of the state, whatever the rates f

@@ -1,4 +1,4 @@
--- 000's `state_derivatives` as a function of a grid: what the network's tables hold, read from the grid itself. Definitions only.
+-- 000's `state_derivatives` and `rk4_step` as functions of a grid: what the network's tables hold, read from the grid itself. Definitions only.
 use Prim.Native.Nat.{ℕ}
 use mathlib.Core.List.{List}
 use lib.ListN.{getD}
@@ -10,7 +10,9 @@ use Rattle.grid.specs.declared.parts.DcCable.{DcCable}
 use Rattle.grid.specs.declared.simulator.DcSwitchingSimulator.{DcSwitchingSimulator}
 use Rattle.network.specs.declared.network.Drain.{Drain}
 use Rattle.network.specs.Network.{inductance, farads}
-use Rattle.transient.specs.Derivatives.{derivative}
+use Rattle.transient.specs.declared.state.DcTransientState.{DcTransientState}
+use Rattle.transient.specs.Derivatives.{derivatives}
+use Rattle.transient.specs.Rk4.{stepBy}
 
 module _ (g : DcSwitchingSimulator) where
   abbrev pub cableAt : ℕ → DcCable
@@ -34,6 +36,8 @@ module _ (g : DcSwitchingSimulator) where
   abbrev pub capacitanceOf : ℕ → Float
   capacitanceOf i = farads (cablesOf g) (stationAt i)
 
-  -- of number i of the state y, under a drain
-  abbrev pub gridDerivative : Drain → List Float → ℕ → Float
-  gridDerivative d y i = derivative fromOf toOf resistanceOf inductanceOf capacitanceOf d (g .«n_stations») (g .«n_cables») y i
+  abbrev pub gridDerivatives : Drain → List Float → List Float
+  gridDerivatives d y = derivatives fromOf toOf resistanceOf inductanceOf capacitanceOf d (g .«n_stations») (g .«n_cables») y
+
+  abbrev pub gridStep : Drain → DcTransientState → Float → DcTransientState
+  gridStep d s dt = stepBy (g .«n_stations») (g .«n_cables») fromOf toOf (gridDerivatives d) s dt

@@ -36,6 +36,27 @@ rk4 size f dt y =
     let k4 = f (ahead size y dt k3) in
     blended size y (dt ⊘ six) k1 k2 k3 k4
 
+module _ (n m : ℕ) where
+  -- the numbers of a state of n stations and m cables with the voltages raised to 0
+  unfoldable pub raised : List Float → List Float
+  raised y = padded 96 (n + m) (λ i. cond (ltb i n) (maxOf (of y i) nought) (of y i)) nought
+
+  -- those after a step with the rates f
+  unfoldable pub newState : (List Float → List Float) → Float → List Float → List Float
+  newState f dt y = raised (rk4 (n + m) f dt y)
+
+  -- the state after it, of cables from `from` to `to`: new voltages and cable currents, station currents from these, all else as it was
+  unfoldable pub stepBy : (ℕ → ℕ) → (ℕ → ℕ) → (List Float → List Float) → DcTransientState → Float → DcTransientState
+  stepBy from to f s dt =
+      let y = newState f dt (s .y) in
+      record {
+        «time_ms» = s .«time_ms»;
+        y = y;
+        «station_currents_ka» = padded 32 n (net from to n y m) nought;
+        «fault_current_ka» = s .«fault_current_ka»;
+        «breaker_states» = s .«breaker_states»;
+      }
+
 module _ (w : Network) where
   abbrev pub stationsIn : ℕ
   stationsIn = stationCount (w .«n_stations»)
@@ -43,26 +64,9 @@ module _ (w : Network) where
   abbrev pub cablesIn : ℕ
   cablesIn = cableCount (w .«n_cables»)
 
-  -- the numbers of a state with its voltages raised to 0
-  unfoldable pub raised : List Float → List Float
-  raised y = padded 96 (stationsIn + cablesIn) (λ i. cond (ltb i stationsIn) (maxOf (of y i) nought) (of y i)) nought
+  -- dy/dt
+  abbrev pub slopes : Drain → List Float → List Float
+  slopes d = derivatives (end (w .from)) (end (w .to)) (of (w .«resistance_ohm»)) (of (w .«inductance_h»)) (of (w .«capacitance_f»)) d stationsIn cablesIn
 
-  module _ (d : Drain) where
-    -- dy/dt
-    abbrev pub slopes : List Float → List Float
-    slopes = derivatives (end (w .from)) (end (w .to)) (of (w .«resistance_ohm»)) (of (w .«inductance_h»)) (of (w .«capacitance_f»)) d stationsIn cablesIn
-
-    unfoldable pub newState : Float → List Float → List Float
-    newState dt y = raised (rk4 (stationsIn + cablesIn) slopes dt y)
-
-    -- the state after a step: new voltages and cable currents, station currents from these, all else as it was
-    unfoldable pub rk4Step : DcTransientState → Float → DcTransientState
-    rk4Step s dt =
-        let y = newState dt (s .y) in
-        record {
-          «time_ms» = s .«time_ms»;
-          y = y;
-          «station_currents_ka» = padded 32 stationsIn (net (end (w .from)) (end (w .to)) stationsIn y cablesIn) nought;
-          «fault_current_ka» = s .«fault_current_ka»;
-          «breaker_states» = s .«breaker_states»;
-        }
+  abbrev pub rk4Step : Drain → DcTransientState → Float → DcTransientState
+  rk4Step d s dt = stepBy stationsIn cablesIn (end (w .from)) (end (w .to)) (slopes d) s dt

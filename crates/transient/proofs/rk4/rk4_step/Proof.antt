@@ -1,6 +1,6 @@
 -- `rk4_step` meets its contract. Assumes nothing.
 use Rattle.transient.proofs.Stages.{rk4-raised}
-use Rattle.transient.specs.Rk4.{newState, rk4Step}
+use Rattle.transient.specs.Rk4.{newState, stepBy, stationsIn, cablesIn, slopes}
 use Rattle.lists.specs.Tables.{blank}
 use native.Mathlib.Omega.{arith}
 use Prim.Native.Nat.{_≤_}
@@ -39,13 +39,15 @@ net-currents-requires c κs =
     (few-stations (p .before), few-cables p, refl)
 
 returns : tie.Need-returns
-unfolding rk4Step
+unfolding stepBy
 returns c =
     let u = c .before .before .before .before .before in
     let k = u .before .before in
     let p = k .before .before .before .before .before .before .before .before .before .before .before .before .before .before .before in
     let a = p .before .before .args in
-    let e : _ ≡ newState (a .network) (a .drain) (a .«dt-s») (a .state .y) = u .raise-voltages .ensures ∙ rw (k .combine-stages .ensures, p .present2 .ensures, p .before .present .ensures) (rk4-raised (a .network) (a .drain) (a .«dt-s») (a .state .y)) in
+    let w = a .network in
+    let f = slopes w (a .drain) in
+    let e : _ ≡ newState (stationsIn w) (cablesIn w) f (a .«dt-s») (a .state .y) = u .raise-voltages .ensures ∙ rw (k .combine-stages .ensures, p .present2 .ensures, p .before .present .ensures) (rk4-raised (stationsIn w) (cablesIn w) f (a .«dt-s») (a .state .y)) in
     rw (c .net-currents .ensures, e, p .present2 .ensures, p .before .present .ensures)
 
 pub rk4-step-spec : {M : Type 1} → statement M
