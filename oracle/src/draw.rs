@@ -189,3 +189,20 @@ fn natural(operation: u64, random: &mut Random) -> f64 {
         _ => random.below(5) as f64 - 2.0,
     }
 }
+
+/// Draws that many jobs, each of which must be accepted, and hands them on with the Rust's answers.
+#[cfg(test)]
+fn each_accepted(
+    times: usize,
+    draw: impl Fn(&mut Random) -> Drawn,
+    mut met: impl FnMut(&[u64], &[u64]),
+) {
+    let mut random = Random::new(1);
+    for _ in 0..times {
+        let job = draw(&mut random);
+        let mut output = Vec::new();
+        crate::jobs::answer(&mut job.numbers.iter().copied(), &mut output).expect("a whole job");
+        assert_eq!(output[0], 0, "{:?}", job.numbers);
+        met(&job.numbers, &output);
+    }
+}

@@ -61,6 +61,23 @@ impl Kinds {
     }
 }
 
+/// How many of `what` there were, and of which kinds; nothing if there were none.
+fn write_counted(
+    f: &mut fmt::Formatter,
+    all: u64,
+    what: &str,
+    counted: impl IntoIterator<Item = (&'static str, u64)>,
+) -> fmt::Result {
+    if all == 0 {
+        return Ok(());
+    }
+    writeln!(f, "\n{all} {what}, with")?;
+    for (name, count) in counted {
+        writeln!(f, "  {count:>7} {name}")?;
+    }
+    Ok(())
+}
+
 impl fmt::Display for Kinds {
     fn fmt(&self, f: &mut fmt::Formatter) -> fmt::Result {
         write!(f, "{}{}", self.flows, self.points)?;

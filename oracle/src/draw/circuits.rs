@@ -156,21 +156,14 @@ pub fn rest(plan: &Plan, random: &mut Random) -> Vec<u64> {
 #[cfg(test)]
 mod tests {
     use super::*;
-    use crate::jobs::answer;
+    use crate::draw::each_accepted;
     use crate::tally::Circuits;
 
     #[test]
     fn accepted_and_of_every_kind() {
-        let mut random = Random::new(1);
-        let mut circuits = Circuits::default();
-        for _ in 0..5000 {
-            let job = job(&mut random);
-            let mut output = Vec::new();
-            answer(&mut job.numbers.iter().copied(), &mut output).expect("a whole job");
-            assert_eq!(output[0], 0, "{:?}", job.numbers);
-            circuits.add(&job.numbers, &output);
-        }
-        for (name, count) in circuits.counted() {
+        let mut met = Circuits::default();
+        each_accepted(5000, job, |job, answer| met.add(job, answer));
+        for (name, count) in met.counted() {
             assert!(count > 0 || name == Circuits::NEVER, "{name}");
         }
     }

@@ -199,21 +199,14 @@ fn set_any_forms(later: &mut State, earlier: &mut State, random: &mut Random) {
 #[cfg(test)]
 mod tests {
     use super::*;
-    use crate::jobs::answer;
+    use crate::draw::each_accepted;
     use crate::tally::Detections;
 
     #[test]
     fn accepted_and_of_every_kind() {
-        let mut random = Random::new(1);
-        let mut detections = Detections::default();
-        for _ in 0..20_000 {
-            let job = job(&mut random);
-            let mut output = Vec::new();
-            answer(&mut job.numbers.iter().copied(), &mut output).expect("a whole job");
-            assert_eq!(output[0], 0, "{:?}", job.numbers);
-            detections.add(&job.numbers, &output);
-        }
-        for (name, count) in detections.counted() {
+        let mut met = Detections::default();
+        each_accepted(20_000, job, |job, answer| met.add(job, answer));
+        for (name, count) in met.counted() {
             assert!(count > 0, "{name}");
         }
     }

@@ -287,21 +287,14 @@ fn near_half(plan: &mut Plan, random: &mut Random) {
 #[cfg(test)]
 mod tests {
     use super::*;
-    use crate::jobs::answer;
+    use crate::draw::each_accepted;
     use crate::tally::Flows;
 
     #[test]
     fn accepted_and_of_every_kind() {
-        let mut random = Random::new(1);
-        let mut flows = Flows::default();
-        for _ in 0..5000 {
-            let job = job(&mut random);
-            let mut output = Vec::new();
-            answer(&mut job.numbers.iter().copied(), &mut output).expect("a whole job");
-            assert_eq!(output[0], 0, "{:?}", job.numbers);
-            flows.add(&job.numbers, &output);
-        }
-        for (name, count) in flows.counted() {
+        let mut met = Flows::default();
+        each_accepted(5000, job, |job, answer| met.add(job, answer));
+        for (name, count) in met.counted() {
             assert!(count > 0 || name == "a NaN or infinite voltage", "{name}");
         }
     }

@@ -60,22 +60,20 @@ fn double(random: &mut Random) -> f64 {
 #[cfg(test)]
 mod tests {
     use super::*;
-    use crate::jobs::{answer, VSC_POINT};
+    use crate::draw::each_accepted;
+    use crate::jobs::VSC_POINT;
     use crate::tally::Points;
 
     #[test]
     fn accepted_and_of_every_kind() {
-        let mut random = Random::new(1);
         for number in [LCC_POINT, VSC_POINT] {
-            let mut points = Points::default();
-            for _ in 0..1000 {
-                let job = job(number, &mut random);
-                let mut output = Vec::new();
-                answer(&mut job.numbers.iter().copied(), &mut output).expect("a whole job");
-                assert_eq!(output[0], 0, "{:?}", job.numbers);
-                points.add(&output);
-            }
-            for (name, count) in points.counted() {
+            let mut met = Points::default();
+            each_accepted(
+                1000,
+                |random| job(number, random),
+                |_, answer| met.add(answer),
+            );
+            for (name, count) in met.counted() {
                 assert!(count > 0, "{name}");
             }
         }

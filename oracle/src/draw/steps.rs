@@ -181,21 +181,14 @@ pub fn state(plan: &Plan, random: &mut Random) -> Vec<u64> {
 #[cfg(test)]
 mod tests {
     use super::*;
-    use crate::jobs::answer;
+    use crate::draw::each_accepted;
     use crate::tally::Steps;
 
     #[test]
     fn accepted_and_of_every_kind() {
-        let mut random = Random::new(1);
-        let mut steps = Steps::default();
-        for _ in 0..5000 {
-            let job = job(&mut random);
-            let mut output = Vec::new();
-            answer(&mut job.numbers.iter().copied(), &mut output).expect("a whole job");
-            assert_eq!(output[0], 0, "{:?}", job.numbers);
-            steps.add(&job.numbers, &output);
-        }
-        for (name, count) in steps.counted() {
+        let mut met = Steps::default();
+        each_accepted(5000, job, |job, answer| met.add(job, answer));
+        for (name, count) in met.counted() {
             assert!(count > 0, "{name}");
         }
     }

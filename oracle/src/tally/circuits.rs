@@ -1,5 +1,6 @@
 //! The fault circuits of grids that no rule refused.
 
+use super::write_counted;
 use crate::dc_switching::{damping, damping_squares, Damping, DcFaultType};
 use crate::grids;
 use crate::numbers::double;
@@ -98,13 +99,6 @@ impl Circuits {
 
 impl fmt::Display for Circuits {
     fn fmt(&self, f: &mut fmt::Formatter) -> fmt::Result {
-        if self.all == 0 {
-            return Ok(());
-        }
-        writeln!(f, "\n{} accepted fault circuits, with", self.all)?;
-        for (name, count) in self.counted() {
-            writeln!(f, "  {count:>7} {name}")?;
-        }
-        Ok(())
+        write_counted(f, self.all, "accepted fault circuits", self.counted())
     }
 }

@@ -1,5 +1,6 @@
 //! The detections on grids that no rule refused.
 
+use super::write_counted;
 use crate::grids;
 use crate::numbers::double;
 use std::fmt;
@@ -115,13 +116,6 @@ fn positions(of: &[f64], is: fn(f64) -> bool) -> Vec<usize> {
 
 impl fmt::Display for Detections {
     fn fmt(&self, f: &mut fmt::Formatter) -> fmt::Result {
-        if self.all == 0 {
-            return Ok(());
-        }
-        writeln!(f, "\n{} accepted detections, with", self.all)?;
-        for (name, count) in self.counted() {
-            writeln!(f, "  {count:>7} {name}")?;
-        }
-        Ok(())
+        write_counted(f, self.all, "accepted detections", self.counted())
     }
 }

@@ -1,5 +1,6 @@
 //! The flows that no rule refused.
 
+use super::write_counted;
 use crate::grids::{self, Grid};
 use crate::jobs::POINT;
 use std::fmt;
@@ -129,10 +130,7 @@ impl fmt::Display for Flows {
         if self.all == 0 {
             return Ok(());
         }
-        writeln!(f, "\n{} accepted flows, with", self.all)?;
-        for (name, count) in self.counted() {
-            writeln!(f, "  {count:>7} {name}")?;
-        }
+        write_counted(f, self.all, "accepted flows", self.counted())?;
         writeln!(f, "The largest voltage is {:.3e} kV.", self.largest_kv)
     }
 }

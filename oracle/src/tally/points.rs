@@ -1,5 +1,6 @@
 //! The operating points of stations that no rule refused.
 
+use super::write_counted;
 use std::fmt;
 
 #[derive(Default)]
@@ -32,13 +33,6 @@ impl Points {
 
 impl fmt::Display for Points {
     fn fmt(&self, f: &mut fmt::Formatter) -> fmt::Result {
-        if self.all == 0 {
-            return Ok(());
-        }
-        writeln!(f, "\n{} accepted operating points, with", self.all)?;
-        for (name, count) in self.counted() {
-            writeln!(f, "  {count:>7} {name}")?;
-        }
-        Ok(())
+        write_counted(f, self.all, "accepted operating points", self.counted())
     }
 }

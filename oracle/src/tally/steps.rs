@@ -1,5 +1,6 @@
 //! The steps on grids that no rule refused.
 
+use super::write_counted;
 use crate::dc_switching::{ConverterStation, ConverterTopology, DcCable};
 use crate::grids;
 use crate::numbers::double;
@@ -154,13 +155,6 @@ fn has_least_capacitance(s: &ConverterStation, cables: &[DcCable]) -> bool {
 
 impl fmt::Display for Steps {
     fn fmt(&self, f: &mut fmt::Formatter) -> fmt::Result {
-        if self.all == 0 {
-            return Ok(());
-        }
-        writeln!(f, "\n{} accepted steps, with", self.all)?;
-        for (name, count) in self.counted() {
-            writeln!(f, "  {count:>7} {name}")?;
-        }
-        Ok(())
+        write_counted(f, self.all, "accepted steps", self.counted())
     }
 }
