@@ -1,5 +1,5 @@
 //! Takes document 000 as it was published, with E, S and C in the place of `exp`, `sin` and `cos`, and nothing else changed. Of what
-//! stands inside one of its functions, hooks are given the text itself.
+//! stands inside one of its functions, hooks are given the text itself, and of its runs a copy that can end sooner.
 
 use std::path::Path;
 use std::{env, fs};
@@ -19,27 +19,77 @@ const EDITS: [(&str, &str, usize); 4] = [
 /// Appended to the module: what opens its private functions to the jobs.
 const HOOKS: &str = "src/hooks.rs.txt";
 
-/// Pieces of the module that hooks have a copy of, since no function of the module is just that: the name that stands in a hook in
-/// the piece's place, and the piece's beginning and end.
-const PIECES: [(&str, &str, &str); 5] = [
-    (
+/// A piece of the module that hooks have a copy of, since no function of the module is just that.
+struct Piece {
+    /// What stands in a hook in the piece's place.
+    name: &'static str,
+    from: &'static str,
+    through: &'static str,
+    /// The text to find in the copy, once, and what stands there in its place.
+    edits: &'static [(&'static str, &'static str)],
+}
+
+const fn piece(name: &'static str, from: &'static str, through: &'static str) -> Piece {
+    Piece {
+        name,
+        from,
+        through,
+        edits: &[],
+    }
+}
+
+const PIECES: [Piece; 7] = [
+    piece(
         "@base_units@",
         "// Convert to base units",
         "let is_underdamped = alpha * alpha < omega0_sq;",
     ),
-    (
+    piece(
         "@fault_current@",
         "let t_fault_s",
         "let i_fault_ka = i_fault_ka * fault_type_factor;",
     ),
-    ("@if_oscillating@", "let omega_d", "if omega_d > 1e-12 {"),
-    ("@if_two_roots@", "let disc", "if (s1 - s2).abs() > 1e-12 {"),
-    (
+    piece("@if_oscillating@", "let omega_d", "if omega_d > 1e-12 {"),
+    piece("@if_two_roots@", "let disc", "if (s1 - s2).abs() > 1e-12 {"),
+    piece(
         "@decay@",
         "let t_after_clear_s",
         "if state.fault_current_ka < 1e-6 {\n                    state.fault_current_ka = 0.0;\n                }",
     ),
+    // The runs whole, but for a name of their own and a loop that may end sooner. The results are then the variables.
+    Piece {
+        name: "@first_steps_of_fault@",
+        from: "pub fn simulate_fault(",
+        through: "fault_cleared,\n        })\n    }",
+        edits: &[
+            (
+                "simulate_fault(&self, fault: &DcFaultEvent)",
+                "first_steps_of_fault(&self, fault: &DcFaultEvent, steps: usize)",
+            ),
+            LOOP,
+            (
+                "if fault_cleared {\n                clearing_time_ms\n            } else {\n                self.duration_ms\n            }",
+                "clearing_time_ms",
+            ),
+        ],
+    },
+    Piece {
+        name: "@first_steps_of_switching@",
+        from: "pub fn simulate_switching(",
+        through: "fault_cleared: true,\n        })\n    }",
+        edits: &[
+            ("simulate_switching(", "first_steps_of_switching("),
+            ("open: bool,\n", "open: bool,\n        steps: usize,\n"),
+            LOOP,
+        ],
+    },
 ];
+
+/// The loop over a run's steps.
+const LOOP: (&str, &str) = (
+    "for step in 0..total_steps {",
+    "for step in 0..total_steps.min(steps) {",
+);
 
 const LIBRARY: &str = "../target/staticlib";
 
@@ -66,23 +116,38 @@ fn edited(published: &str) -> String {
     text
 }
 
-/// The text from `from` through `through`, each of which the module has once.
-fn piece<'a>(module: &'a str, from: &str, through: &str) -> &'a str {
-    for words in [from, through] {
-        let found = module.matches(words).count();
-        assert!(found == 1, "{words:?} is found {found} times, and not once");
+fn assert_once(text: &str, words: &str) {
+    let found = text.matches(words).count();
+    assert!(found == 1, "{words:?} is found {found} times, and not once");
+}
+
+impl Piece {
+    /// The text from `from` through `through`, each of which the module has once, with the piece's edits.
+    fn text(&self, module: &str) -> String {
+        assert_once(module, self.from);
+        assert_once(module, self.through);
+        let start = module.find(self.from).expect("it is found");
+        let last = module.find(self.through).expect("it is found");
+        assert!(
+            start < last,
+            "{:?} stands before {:?}",
+            self.through,
+            self.from
+        );
+        let mut text = module[start..last + self.through.len()].to_string();
+        for (find, replace) in self.edits {
+            assert_once(&text, find);
+            text = text.replace(find, replace);
+        }
+        text
     }
-    let start = module.find(from).expect("it is found");
-    let last = module.find(through).expect("it is found");
-    assert!(start < last, "{through:?} stands before {from:?}");
-    &module[start..last + through.len()]
 }
 
 fn with_pieces(hooks: &str, module: &str) -> String {
     let mut text = hooks.to_string();
-    for (name, from, through) in PIECES {
-        assert!(text.contains(name), "no hook has {name}");
-        text = text.replace(name, piece(module, from, through));
+    for piece in PIECES {
+        assert!(text.contains(piece.name), "no hook has {}", piece.name);
+        text = text.replace(piece.name, &piece.text(module));
     }
     assert!(!text.contains('@'), "a hook has a piece that is not known");
     text

@@ -5,9 +5,12 @@ mod detections;
 mod flows;
 mod grids;
 mod points;
+mod runs;
 mod steps;
 
-use crate::jobs::{is_point, CIRCUIT, DETECTION, FLOATS, FLOW, STEP};
+use crate::jobs::{
+    is_kept, is_point, CIRCUIT, DETECTION, FAULT_RUN, FLOATS, FLOW, STEP, SWITCHING_RUN,
+};
 use crate::plan::End;
 use std::f64::consts::PI;
 
@@ -65,6 +68,8 @@ pub fn job(number: u64, random: &mut Random) -> Drawn {
         DETECTION if random.below(4) > 0 => detections::job(random),
         STEP if random.below(4) > 0 => steps::job(random),
         CIRCUIT if random.below(4) > 0 => circuits::job(random),
+        FAULT_RUN | SWITCHING_RUN if random.below(4) > 0 => runs::job(number, random),
+        _ if is_kept(number) && random.below(4) > 0 => runs::kept(number, random),
         _ if is_point(number) && random.below(4) > 0 => points::job(number, random),
         _ => grids::job(number, random),
     }

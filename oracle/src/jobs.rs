@@ -1,5 +1,6 @@
 //! The jobs of the replay bench, answered by the published Rust and by document 01's rules.
 
+pub mod runs;
 mod transients;
 
 use crate::dc_switching::{
@@ -19,6 +20,8 @@ pub const SWITCHING_RUN: u64 = 5;
 pub const DETECTION: u64 = 6;
 pub const SWEEP: u64 = 7;
 pub const FLOATS: u64 = 8;
+pub const KEPT_FAULT_RUN: u64 = 9;
+pub const KEPT_SWITCHING_RUN: u64 = 10;
 /// The one job on a grid that refuses none.
 pub const TIMES: u64 = 12;
 // What a fault run is made of, refused as one.
@@ -26,7 +29,7 @@ pub const STEP: u64 = 13;
 pub const CIRCUIT: u64 = 14;
 
 /// The jobs on a grid or a part of one.
-pub const GRID_JOBS: [(u64, &str); 10] = [
+pub const GRID_JOBS: [(u64, &str); 12] = [
     (FLOW, "flow"),
     (LCC_POINT, "LCC point"),
     (VSC_POINT, "VSC point"),
@@ -34,6 +37,8 @@ pub const GRID_JOBS: [(u64, &str); 10] = [
     (SWITCHING_RUN, "switching run"),
     (DETECTION, "detection"),
     (SWEEP, "sweep"),
+    (KEPT_FAULT_RUN, "kept fault run"),
+    (KEPT_SWITCHING_RUN, "kept switching run"),
     (TIMES, "times"),
     (STEP, "RK4 step"),
     (CIRCUIT, "fault circuit"),
@@ -46,7 +51,12 @@ pub fn is_point(job: u64) -> bool {
 
 /// Whether a job has a fault.
 pub fn has_fault(job: u64) -> bool {
-    matches!(job, FAULT_RUN | STEP | CIRCUIT)
+    matches!(job, FAULT_RUN | KEPT_FAULT_RUN | STEP | CIRCUIT)
+}
+
+/// Whether a job is a kept run, whose answer is a stop, or 11 for all that refuses it.
+pub fn is_kept(job: u64) -> bool {
+    matches!(job, KEPT_FAULT_RUN | KEPT_SWITCHING_RUN)
 }
 
 /// Answers the next job, or nothing more where the input ends, inside the job too, or no such job is known.
@@ -55,11 +65,13 @@ pub fn answer(input: &mut impl Iterator<Item = u64>, output: &mut Vec<u64>) -> O
         FLOW => flow(input, output)?,
         LCC_POINT => lcc_point(input, output)?,
         VSC_POINT => vsc_point(input, output)?,
-        FAULT_RUN => output.push(fault_run(input)?),
-        SWITCHING_RUN => output.push(switching_run(input)?),
+        FAULT_RUN => runs::fault_run(input, output)?,
+        SWITCHING_RUN => runs::switching_run(input, output)?,
         DETECTION => transients::detection(input, output)?,
         SWEEP => output.push(sweep(input)?),
         FLOATS => floats(input, output)?,
+        KEPT_FAULT_RUN => output.push(runs::kept_fault_run(input)?),
+        KEPT_SWITCHING_RUN => output.push(runs::kept_switching_run(input)?),
         TIMES => times(&grids::grid(input)?, output),
         STEP => transients::step(input, output)?,
         CIRCUIT => transients::circuit(input, output)?,
@@ -140,42 +152,17 @@ fn point_numbers(point: &ConverterOperatingPoint) -> [u64; POINT] {
     ]
 }
 
-// The studies that are answered up to their refusal: 0, or the number of the rule. Of what a refusal does not depend on, the
-// numbers are read, so that the next job begins where this one ends.
-
-fn fault_run(input: &mut impl Iterator<Item = u64>) -> Option<u64> {
-    let grid = grids::grid(input)?;
-    let fault = grids::fault(input)?;
-    calls(input)?;
-    Some(rules::fault(&grid, &fault))
-}
-
-fn switching_run(input: &mut impl Iterator<Item = u64>) -> Option<u64> {
-    let grid = grids::grid(input)?;
-    let (_breaker, _open) = (input.next()?, input.next()?);
-    calls(input)?;
-    Some(rules::switching(&grid))
-}
-
+/// Answered up to its refusal: 0, or the number of the rule. The calls are read, so that the next job begins where this one ends.
 fn sweep(input: &mut impl Iterator<Item = u64>) -> Option<u64> {
     let grid = grids::grid(input)?;
     let order = grids::order(input)?;
-    calls(input)?;
+    runs::calls(input)?;
     Some(rules::sweep(&grid, &order))
 }
 
-/// How many calls, then an allowance and a space for each.
-fn calls(input: &mut impl Iterator<Item = u64>) -> Option<()> {
-    let k = input.next()?;
-    skip(input, k)?;
-    skip(input, k)
-}
-
-fn skip(input: &mut impl Iterator<Item = u64>, n: u64) -> Option<()> {
-    for _ in 0..n {
-        input.next()?;
-    }
-    Some(())
+/// Time and fault current, two numbers of each station, one of each cable and breaker; counts are cut to the room that there is.
+fn record_length(g: &Grid) -> u64 {
+    2 + 2 * g.n_stations.min(STATIONS) + g.n_cables.min(CABLES) + g.n_breakers.min(BREAKERS)
 }
 
 /// What a grid says of times: the steps, counted to one past the limit, the recording interval, the recorded steps, the length
@@ -183,13 +170,11 @@ fn skip(input: &mut impl Iterator<Item = u64>, n: u64) -> Option<()> {
 fn times(g: &Grid, output: &mut Vec<u64>) {
     let simulator = &g.simulator;
     let steps = total_steps(simulator).min(rules::MOST_STEPS as usize + 1);
-    let record =
-        2 + 2 * g.n_stations.min(STATIONS) + g.n_cables.min(CABLES) + g.n_breakers.min(BREAKERS);
     output.extend([
         steps as u64,
         record_interval(steps) as u64,
         recorded_steps(steps) as u64,
-        record,
+        record_length(g),
         bits(time_step_ms(simulator)),
         bits(simulator.duration_ms),
         bits(fastest_clearing_ms(simulator)),
@@ -399,14 +384,31 @@ mod tests {
                 DETECTION => 2,
                 STEP => 1 + 2 * job[3] + job[4],
                 CIRCUIT => 8,
+                FAULT_RUN | SWITCHING_RUN => run_length(&job, &answer),
                 FLOATS => continue,
                 TIMES => 7 + job[5].min(BREAKERS),
                 _ => 1,
             };
-            let refused = job[0] != TIMES && answer[0] != 0;
+            let refused = job[0] != TIMES && !is_kept(job[0]) && answer[0] != 0;
             let length = if refused { 1 } else { accepted };
             assert_eq!(answer.len() as u64, length, "{job:?}");
         }
+    }
+
+    /// By the records that the calls say they wrote.
+    fn run_length(job: &[u64], answer: &[u64]) -> u64 {
+        let input = &mut job[1..].iter().copied();
+        let record = record_length(&grids::grid(input).unwrap());
+        let event = if job[0] == FAULT_RUN { 5 } else { 2 };
+        let calls = runs::calls(&mut input.skip(event)).unwrap();
+        let mut at = 1;
+        for _ in calls {
+            match answer.get(at as usize + 2) {
+                Some(records) => at += 3 + record * records,
+                None => return 0,
+            }
+        }
+        at + 7
     }
 
     #[test]

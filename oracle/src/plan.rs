@@ -2,8 +2,8 @@
 
 use crate::grids::{CABLES, STATIONS};
 use crate::jobs::{
-    has_fault, is_point, CIRCUIT, DETECTION, FAULT_RUN, FLOW, LCC_POINT, STEP, SWEEP,
-    SWITCHING_RUN, TIMES, VSC_POINT,
+    has_fault, is_point, CIRCUIT, DETECTION, FAULT_RUN, FLOW, KEPT_FAULT_RUN, KEPT_SWITCHING_RUN,
+    LCC_POINT, STEP, SWEEP, SWITCHING_RUN, TIMES, VSC_POINT,
 };
 use crate::numbers::NAN;
 use crate::rules::{self, Range};
@@ -20,7 +20,8 @@ pub struct Plan {
     pub breakers: Vec<[u64; 7]>,
     /// A fault, or a sweep order.
     pub event: Vec<u64>,
-    /// What no rule looks at: a current, power and voltage, a breaker number, calls, whether a fault is handed to a step, times.
+    /// What no rule of a grid looks at: a current, power and voltage, a breaker number, calls, steps made, whether a fault is handed to
+    /// a step, times.
     pub rest: Vec<u64>,
     /// The states of a detection, or that of a step; where there is none here, 0, 1, 2 and so on, as many as the counts ask for.
     pub states: Vec<u64>,
@@ -138,7 +139,7 @@ pub const HYBRID: u64 = 2;
 
 impl Plan {
     /// A job on one LCC station of 100 kV, one cable from it to itself and one mechanical breaker at it, for one step, with a
-    /// fault at the cable's start or all tenths of a cable, and without a call. All rules accept it.
+    /// fault at the cable's start or all tenths of a cable, without a call, or with no step made. All rules accept it.
     pub fn small(job: u64) -> Plan {
         let mut plan = Plan {
             job,
@@ -154,9 +155,9 @@ impl Plan {
             },
             rest: match job {
                 FLOW | DETECTION | TIMES => Vec::new(),
-                LCC_POINT | FAULT_RUN | SWEEP => vec![0],
+                LCC_POINT | FAULT_RUN | SWEEP | KEPT_FAULT_RUN => vec![0],
                 VSC_POINT => vec![0, 100f64.to_bits()],
-                SWITCHING_RUN => vec![0, 1, 0],
+                SWITCHING_RUN | KEPT_SWITCHING_RUN => vec![0, 1, 0],
                 STEP => vec![1, 1e-6f64.to_bits()],
                 CIRCUIT => vec![1f64.to_bits(), 1f64.to_bits(), 0],
                 _ => panic!("job {job} has no grid"),

@@ -5,7 +5,8 @@ use crate::dc_switching::{
 };
 use crate::grids::{Grid, SweepOrder};
 use crate::jobs::{
-    has_fault, DETECTION, FAULT_RUN, FLOW, LCC_POINT, SWEEP, SWITCHING_RUN, VSC_POINT,
+    has_fault, DETECTION, FAULT_RUN, FLOW, KEPT_SWITCHING_RUN, LCC_POINT, SWEEP, SWITCHING_RUN,
+    VSC_POINT,
 };
 
 /// Accepted values, ends included.
@@ -66,7 +67,7 @@ pub fn checked(job: u64) -> Vec<u64> {
         LCC_POINT | VSC_POINT => vec![6],
         SWEEP => less(&[]),
         _ if has_fault(job) => less(&[]),
-        SWITCHING_RUN => less(&[2, 9]),
+        SWITCHING_RUN | KEPT_SWITCHING_RUN => less(&[2, 9]),
         DETECTION => vec![3, 1, 6, 7, 8],
         _ => panic!("job {job} checks no rule"),
     }

@@ -5,16 +5,21 @@ mod circuits;
 mod detections;
 mod flows;
 mod points;
+mod runs;
 mod steps;
 
 pub use circuits::Circuits;
 pub use detections::Detections;
 pub use flows::Flows;
 pub use points::Points;
+pub use runs::{FaultRuns, KeptRuns, SwitchingRuns};
 pub use steps::Steps;
 
 use crate::draw::Drawn;
-use crate::jobs::{is_point, CIRCUIT, DETECTION, FLOW, GRID_JOBS, STEP, TIMES};
+use crate::jobs::runs::REFUSED;
+use crate::jobs::{
+    is_kept, is_point, CIRCUIT, DETECTION, FAULT_RUN, FLOW, GRID_JOBS, STEP, SWITCHING_RUN, TIMES,
+};
 use crate::plan::End;
 use crate::rules;
 use std::collections::BTreeMap;
@@ -27,22 +32,30 @@ pub struct Tally {
     kinds: Kinds,
 }
 
-/// The kinds of what no rule refused, study by study.
+/// The kinds of what no rule refused, study by study; of kept runs also those that were refused.
 #[derive(Default)]
 pub struct Kinds {
     pub flows: Flows,
     pub points: Points,
+    pub fault_runs: FaultRuns,
+    pub switching_runs: SwitchingRuns,
+    pub kept_runs: KeptRuns,
     pub detections: Detections,
     pub steps: Steps,
     pub circuits: Circuits,
 }
 
 impl Kinds {
-    /// Adds an accepted job with its answer.
+    /// Adds a job with its answer.
     pub fn add(&mut self, job: &[u64], answer: &[u64]) {
         match job[0] {
+            number if is_kept(number) => self.kept_runs.add(job, answer),
+            TIMES => {}
+            _ if answer[0] != 0 => {}
             FLOW => self.flows.add(job, answer),
             number if is_point(number) => self.points.add(answer),
+            FAULT_RUN => self.fault_runs.add(job, answer),
+            SWITCHING_RUN => self.switching_runs.add(job, answer),
             DETECTION => self.detections.add(job, answer),
             STEP => self.steps.add(job, answer),
             CIRCUIT => self.circuits.add(job, answer),
@@ -54,6 +67,9 @@ impl Kinds {
     pub fn counted(&self) -> Vec<(&'static str, u64)> {
         let mut all = self.flows.counted().to_vec();
         all.extend(self.points.counted());
+        all.extend(self.fault_runs.counted());
+        all.extend(self.switching_runs.counted());
+        all.extend(self.kept_runs.counted());
         all.extend(self.detections.counted());
         all.extend(self.steps.counted());
         all.extend(self.circuits.counted());
@@ -81,6 +97,8 @@ fn write_counted(
 impl fmt::Display for Kinds {
     fn fmt(&self, f: &mut fmt::Formatter) -> fmt::Result {
         write!(f, "{}{}", self.flows, self.points)?;
+        write!(f, "{}{}", self.fault_runs, self.switching_runs)?;
+        write!(f, "{}", self.kept_runs)?;
         write!(f, "{}{}{}", self.detections, self.steps, self.circuits)
     }
 }
@@ -89,14 +107,16 @@ impl Tally {
     /// Adds a job on a grid with its answer.
     pub fn add(&mut self, job: &Drawn, numbers: &[u64]) {
         let number = job.numbers[0];
-        let answer = numbers[0];
-        if number == TIMES {
-            *self.answers.entry((number, 0)).or_default() += 1;
-            return;
-        }
+        let answer = match numbers[0] {
+            _ if number == TIMES => 0,
+            stop if is_kept(number) && stop != REFUSED => 0,
+            refusal => refusal,
+        };
         *self.answers.entry((number, answer)).or_default() += 1;
-        if answer == 0 {
-            self.kinds.add(&job.numbers, numbers);
+        self.kinds.add(&job.numbers, numbers);
+        // The answer does not say which rule refuses a kept run.
+        if number == TIMES || is_kept(number) {
+            return;
         }
         let checked = rules::checked(number);
         for put in &job.put {
@@ -112,21 +132,24 @@ impl Tally {
     }
 }
 
+/// Accepted, or refused by one of these rules.
+const ANSWERS: [u64; 11] = [0, 1, 2, 3, 4, 5, 6, 7, 8, 9, REFUSED];
+
 impl fmt::Display for Tally {
     fn fmt(&self, f: &mut fmt::Formatter) -> fmt::Result {
         writeln!(f, "Jobs by their answer, 0 or the rule that refuses:")?;
         write!(f, "{:<28}", "")?;
-        for rule in 0..=9 {
+        for rule in ANSWERS {
             write!(f, "{rule:>7}")?;
         }
         for (number, name) in GRID_JOBS {
             write!(f, "\n{number:>4} {name:<23}")?;
-            for rule in 0..=9 {
+            for rule in ANSWERS {
                 write!(f, "{:>7}", self.answers.get(&(number, rule)).unwrap_or(&0))?;
             }
         }
         write!(f, "\n{:<28}", "all")?;
-        for rule in 0..=9 {
+        for rule in ANSWERS {
             let all: u64 = GRID_JOBS
                 .iter()
                 .filter_map(|&(number, _)| self.answers.get(&(number, rule)))

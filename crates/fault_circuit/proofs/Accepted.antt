@@ -19,14 +19,14 @@ use Rattle.grid.specs.declared.parts.DcFaultEvent.{DcFaultEvent}
 use Rattle.grid.specs.declared.parts.SweepOrder.{SweepOrder}
 use Rattle.grid.specs.declared.simulator.DcSwitchingSimulator.{DcSwitchingSimulator}
 use Rattle.grid.proofs.InRange.{in-range, range-in}
-use Rattle.timing.specs.Steps.{k1000, timeStepMs, stepsOf}
+use Rattle.timing.specs.Steps.{timeOfStep, k1000, timeStepMs, stepsOf}
 use Rattle.timing.specs.Claims.{Steps}
 use Rattle.rules.specs.PartChecks.{stationOk, cableOk, faultOk, orderOk}
 use Rattle.rules.specs.Studies.{broken, timeOutside, stationOutside, cableOutside, faultOrder, faultRefusal, sweepRefusal}
 use Rattle.rules.specs.Claims.{Sizes}
 use Rattle.rules.proofs.Claims.{refusal-claims, accepted-claims}
 use Rattle.rules.proofs.Sizes.{size-claims}
-use Rattle.fault_circuit.specs.Claims.{isTime, timeOfStep, InRanges}
+use Rattle.fault_circuit.specs.Claims.{isTime, InRanges}
 
 -- g is accepted where no rule of the order is broken; e says whether the event is outside its ranges
 module _ (g : DcSwitchingSimulator) (e : Bool) (h : every (λ j. not (broken g e j)) faultOrder ≡ true) where

@@ -19,7 +19,7 @@ use Rattle.float64.proofs.Range.{UpTo, wider}
 use Rattle.grid.specs.declared.parts.DcFaultEvent.{DcFaultEvent}
 use Rattle.grid.specs.declared.simulator.DcSwitchingSimulator.{DcSwitchingSimulator}
 use Rattle.grid.proofs.InRange.{in-range}
-use Rattle.timing.specs.Steps.{stepsOf}
+use Rattle.timing.specs.Steps.{timeOfStep, stepsOf}
 use Rattle.rules.specs.Studies.{faultRefusal}
 use Rattle.fault_circuit.specs.declared.parameters.RlcParameters.{RlcParameters}
 use Rattle.fault_circuit.specs.declared.circuit.Response.{Response}
@@ -28,7 +28,7 @@ use Rattle.fault_circuit.specs.declared.circuit.FaultCircuit.{FaultCircu
 use Rattle.fault_circuit.specs.Parameters.{parametersOf}
 use Rattle.fault_circuit.specs.Circuit.{alpha, omega0Sq, underdamped, omegaD, s1, s2, underdampedResponse, overdampedResponse, responseOf, resistanceFactor, typeFactor, circuitAt, circuitOf}
 use Rattle.fault_circuit.specs.Current.{secondsSince, amperesBy, amperes, currentBy, currentOf, decayedBy, decayedOf, duringFault, exponents, rlcAmperes}
-use Rattle.fault_circuit.specs.Claims.{CurrentClaims, OneOn, isTime, neverPositive, inUnit, timeOfStep, ExponentClaims, InRanges, InRangesClaims}
+use Rattle.fault_circuit.specs.Claims.{CurrentClaims, OneOn, isTime, neverPositive, inUnit, ExponentClaims, InRanges, InRangesClaims}
 use Rattle.fault_circuit.proofs.Ranges.{ranged}
 use Rattle.fault_circuit.proofs.Accepted.{of-fault, of-sweep, step-time}
 use Rattle.fault_circuit.proofs.Exponents.{seconds, never-during, never-after}

@@ -9,13 +9,13 @@ use borrow.Fn.World.{ArgsD, ResD}
 use borrow.Fn.Kinds.{endedOf}
 use denote.Triple.Clauses.{AtExit}
 use Rattle.lists.specs.Scans.{every}
-use Rattle.timing.specs.Steps.{stepsOf}
+use Rattle.timing.specs.Steps.{timeOfStep, stepsOf}
 use Rattle.rules.specs.Studies.{faultRefusal}
 use Rattle.fault_circuit.specs.declared.parameters.RlcParameters.{RlcParameters}
 use Rattle.fault_circuit.specs.declared.circuit.FaultCircuit.{FaultCircuit}
 use Rattle.fault_circuit.specs.Parameters.{parametersOf}
 use Rattle.fault_circuit.specs.Current.{currentBy, currentOf, decayedBy, exponents, rlcCurrent}
-use Rattle.fault_circuit.specs.Claims.{OneOn, isTime, timeOfStep, neverPositive, inUnit}
+use Rattle.fault_circuit.specs.Claims.{OneOn, isTime, neverPositive, inUnit}
 use Rattle.fault_circuit.proofs.Claims.{current-claims, exponent-claims}
 use Rattle.fault_circuit.proofs.parameters.fault_rlc_params as parameters-contract
 use Rattle.fault_circuit.proofs.parameters.fault_rlc_params.Kinds as parameters-kinds

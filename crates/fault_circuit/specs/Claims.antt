@@ -3,11 +3,9 @@ use Prim.Native.Nat.{ℕ, _<_, _≤_}
 use mathlib.Core.Path.{_≡_}
 use mathlib.Core.Bool.{Bool, true, _&&_}
 use mathlib.Core.List.{List, [], _∷_}
-use lib.IntN.{pos}
-use lib.Ieee.{Float, binary64, ofInt, le}
+use lib.Ieee.{Float, le}
 use Rattle.lists.specs.Scans.{every}
 use Rattle.float64.specs.Constants.{nought, one}
-use Rattle.float64.specs.Arithmetic.{_⊗_}
 use Rattle.float64.specs.Exponential.{E}
 use Rattle.grid.specs.Ranges as range
 use Rattle.grid.specs.Ranges.{ends, realIn}
@@ -15,7 +13,7 @@ use Rattle.grid.specs.Simulator.{stationsOf, cablesOf}
 use Rattle.grid.specs.declared.parts.DcFaultEvent.{DcFaultEvent}
 use Rattle.grid.specs.declared.parts.SweepOrder.{SweepOrder}
 use Rattle.grid.specs.declared.simulator.DcSwitchingSimulator.{DcSwitchingSimulator}
-use Rattle.timing.specs.Steps.{timeStepMs, stepsOf, mostSteps}
+use Rattle.timing.specs.Steps.{timeOfStep, stepsOf, mostSteps}
 use Rattle.rules.specs.PartChecks.{stationOk, cableOk}
 use Rattle.rules.specs.Studies.{faultRefusal, sweepRefusal}
 use Rattle.fault_circuit.specs.declared.circuit.FaultCircuit.{FaultCircuit}
@@ -35,10 +33,6 @@ OneOn e (x ∷ xs) = (e x ≡ E x) × OneOn e xs
 -- a time in milliseconds, from 0 to 1,000,000,000
 abbrev pub isTime : Float → Bool
 isTime t = realIn (ends 0 1000000000) t
-
--- the time of a step
-abbrev pub timeOfStep : DcSwitchingSimulator → ℕ → Float
-timeOfStep g k = ofInt binary64 (pos k) ⊗ timeStepMs g
 
 -- "t is never positive", of each argument of E
 abbrev pub neverPositive : Float → Bool

@@ -3,3 +3,4 @@ pub mod Fills
 pub mod Scanning
 pub mod Folds
 pub mod Places
+pub mod Stores

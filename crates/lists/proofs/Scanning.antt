@@ -74,6 +74,10 @@ pub every-of : {A : Type 0} (f h : A → Bool) → ((x : A) → f x ≡ true →
 every-of f h i [] p = refl
 every-of f h i (x ∷ xs) p = both (h x) (every h xs) (i x (left (f x) (every f xs) p)) (every-of f h i xs (right (f x) (every f xs) p))
 
+-- how many a count takes
+pub length-cut : {A : Type 0} (xs : List A) (n m k : ℕ) → length xs ≡ m → k ≡ min n m → k ≡ length (take n xs)
+length-cut xs n m k l e = rw (length-take, l) e
+
 -- a count past the end takes what there is
 pub take-cut : {A : Type 0} (xs : List A) (n m k : ℕ) → length xs ≡ m → k ≡ min n m → take k xs ≡ take n xs
 take-cut xs n m k l e =

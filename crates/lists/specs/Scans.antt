@@ -1,6 +1,6 @@
 -- Lists gone through from the front. Definitions only.
 use Prim.Native.Nat.{ℕ, zero, suc}
-use mathlib.Core.Bool.{Bool, true, false, _&&_, _||_, cond}
+use mathlib.Core.Bool.{Bool, true, false, not, _&&_, _||_, cond}
 use mathlib.Core.List.{List, [], _∷_}
 
 module _ {A : Type 0} (f : A → Bool) where
@@ -18,3 +18,7 @@ module _ {A : Type 0} (f : A → Bool) where
 abbrev pub some : ℕ → (ℕ → Bool) → Bool
 some zero f = false
 some (suc n) f = some n f || f n
+
+-- and of each of them: it fails of none
+abbrev pub each : ℕ → (ℕ → Bool) → Bool
+each n f = not (some n (λ i. not (f i)))

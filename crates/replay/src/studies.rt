@@ -1,8 +1,6 @@
-// Jobs 4, 5 and 7, each up to its refusal: 0 for what is accepted, or the number of the rule that refuses it. A job is
-// read whole before it is answered, also where the answer does not depend on its last numbers.
+// Job 7 up to its refusal: 0 for what is accepted, or the number of the rule that refuses it. What is refused is read whole before it
+// is answered, also where the answer does not depend on its last numbers.
 use crate::After;
-use crate::faults;
-use crate::faults::FaultRead;
 use crate::grids;
 use crate::numbers;
 use crate::numbers::Cursor;
@@ -10,45 +8,10 @@ use crate::numbers::ROOM;
 use crate::numbers::Skipped;
 use crate::numbers::Taken;
 use grid::SweepOrder;
-use rules::Verdict;
 
 enum OrderRead {
     Order(SweepOrder, Cursor),
     Ended,
-}
-
-// Job 4: a grid, a fault and calls.
-pub fn fault_run(lines: &mut [u8; ROOM], answers: &mut [u8; ROOM], c: Cursor) -> After {
-    let r = grids::read_grid(lines, c);
-    if r.ended {
-        return After::Nothing(c);
-    }
-    let g = r.grid;
-    let c = r.c;
-    let FaultRead::Fault(fault, c) = faults::read_fault(lines, c) else {
-        return After::Nothing(c);
-    };
-    let Skipped::To(c) = skip_calls(lines, c) else {
-        return After::Nothing(c);
-    };
-    refusal(answers, c, rules::check_fault(g, fault))
-}
-
-// Job 5: a grid, a breaker number, whether it opens, and calls. Any breaker number is taken.
-pub fn switching_run(lines: &mut [u8; ROOM], answers: &mut [u8; ROOM], c: Cursor) -> After {
-    let r = grids::read_grid(lines, c);
-    if r.ended {
-        return After::Nothing(c);
-    }
-    let g = r.grid;
-    let c = r.c;
-    let Skipped::To(c) = numbers::skip(lines, c, 2) else {
-        return After::Nothing(c);
-    };
-    let Skipped::To(c) = skip_calls(lines, c) else {
-        return After::Nothing(c);
-    };
-    refusal(answers, c, rules::check_switching(g))
 }
 
 // Job 7: a grid, an order and calls.
@@ -62,14 +25,21 @@ pub fn sweep(lines: &mut [u8; ROOM], answers: &mut [u8; ROOM], c: Cursor) -> Aft
     let OrderRead::Order(order, c) = read_order(lines, c) else {
         return After::Nothing(c);
     };
+    let refusal = rules::number(rules::check_sweep(g, order));
+    up_to_refusal(lines, answers, c, refusal)
+}
+
+// The answer is the refusal alone: the calls are passed over.
+pub fn up_to_refusal(
+    lines: &mut [u8; ROOM],
+    answers: &mut [u8; ROOM],
+    c: Cursor,
+    refusal: u64,
+) -> After {
     let Skipped::To(c) = skip_calls(lines, c) else {
         return After::Nothing(c);
     };
-    refusal(answers, c, rules::check_sweep(g, order))
-}
-
-fn refusal(answers: &mut [u8; ROOM], c: Cursor, v: Verdict) -> After {
-    After::Job(numbers::append(answers, c, rules::number(v)))
+    After::Job(numbers::append(answers, c, refusal))
 }
 
 // Resistance, inception, low and high tenth.

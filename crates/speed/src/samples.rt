@@ -74,7 +74,7 @@ pub fn sample_cable(id: u64) -> DcCable {
 }
 
 // The three kinds in turn.
-fn sample_breaker(id: u64, ms: f64) -> DcBreaker {
+pub fn sample_breaker(id: u64, ms: f64) -> DcBreaker {
     let kind = id % 3;
     let breaker_type = match kind {
         0 => DcBreakerType::Mechanical {

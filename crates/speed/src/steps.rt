@@ -27,9 +27,7 @@ pub extern "C" fn sum_steps(stations: u64, cables: u64, count: u64) -> f64 {
         sum += state.y[0];
         left -= 1;
     }
-    let y = state.y;
-    let currents = state.station_currents_ka;
-    sum_currents(sum_entries(sum, y), currents)
+    sum_state(sum, state)
 }
 
 // Adds up `count` of the currents of a fault on a cable of that many ohms per km, at 0 ms, 0.001 ms, and so on. As in a run, what does
@@ -54,7 +52,7 @@ pub extern "C" fn sum_fault_currents(ohms_per_km: f64, count: u64) -> f64 {
     sum
 }
 
-fn sample_fault() -> DcFaultEvent {
+pub fn sample_fault() -> DcFaultEvent {
     DcFaultEvent {
         fault_type: DcFaultType::PoleToGround,
         location_cable_id: 0,
@@ -85,7 +83,13 @@ fn rated_state(n_stations: usize) -> DcTransientState
     }
 }
 
-// Past the grid's parts there are zeros.
+// Adds voltages and currents. Past the grid's parts there are zeros.
+pub fn sum_state(first: f64, state: DcTransientState) -> f64 {
+    let y = state.y;
+    let currents = state.station_currents_ka;
+    sum_currents(sum_entries(first, y), currents)
+}
+
 fn sum_entries(first: f64, y: [f64; 96]) -> f64 {
     let mut sum = first;
     let mut i = 0;

@@ -4,7 +4,8 @@ use mathlib.Core.Bool.{Bool, true, false, _||_, cond}
 use mathlib.Core.Path.{_≡_, refl}
 use lib.Dec.{eqb}
 use lib.ListN.{length}
-use lib.Ieee.{Float, nan, inf, fin, binary64, up, down, ofBits, round, div}
+use lib.IntN.{pos}
+use lib.Ieee.{Float, nan, inf, fin, binary64, up, down, ofBits, ofInt, round, mul, div}
 use Rattle.float64.specs.Constants.{decimal}
 use Rattle.float64.specs.Choice.{maxOf}
 use Rattle.grid.specs.Simulator.{leastTimeStep, leastDuration, stationsOf, cablesOf, breakersOf}
@@ -23,6 +24,10 @@ timeStepMs g = div binary64 (maxOf (g .«dt_us») leastTimeStep) k1000
 
 abbrev pub durationMs : DcSwitchingSimulator → Float
 durationMs g = maxOf (g .«duration_ms») leastDuration
+
+-- the time of a step, numbered from 0: 000's t_ms
+abbrev pub timeOfStep : DcSwitchingSimulator → ℕ → Float
+timeOfStep g step = mul binary64 (ofInt binary64 (pos step)) (timeStepMs g)
 
 -- rounded up to a whole number. As Rust casts it, a NaN and what is negative give 0, and infinity the largest number there is.
 unfoldable pub roundedUp : Float → ℕ

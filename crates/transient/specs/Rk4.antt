@@ -1,5 +1,6 @@
 -- "Classical RK4, 1/6 (k1+2k2+2k3+k4). New voltages are at least 0." Definitions only.
 use Prim.Native.Nat.{ℕ, _+_}
+use mathlib.Core.Path.{_≡_}
 use mathlib.Core.Bool.{cond}
 use mathlib.Core.List.{List}
 use lib.Dec.{ltb}
@@ -45,14 +46,17 @@ module _ (n m : ℕ) where
   unfoldable pub newState : (List Float → List Float) → Float → List Float → List Float
   newState f dt y = raised (rk4 (n + m) f dt y)
 
-  -- the state after it, of cables from `from` to `to`: new voltages and cable currents, station currents from these, all else as it was
+  -- the station currents after it, of cables from `from` to `to`
+  abbrev pub currentsAfter : (ℕ → ℕ) → (ℕ → ℕ) → (List Float → List Float) → Float → List Float → List Float
+  currentsAfter from to f dt y = padded 32 n (net from to n (newState f dt y) m) nought
+
+  -- the state after it: new voltages and cable currents, station currents from these, all else as it was
   unfoldable pub stepBy : (ℕ → ℕ) → (ℕ → ℕ) → (List Float → List Float) → DcTransientState → Float → DcTransientState
   stepBy from to f s dt =
-      let y = newState f dt (s .y) in
       record {
         «time_ms» = s .«time_ms»;
-        y = y;
-        «station_currents_ka» = padded 32 n (net from to n y m) nought;
+        y = newState f dt (s .y);
+        «station_currents_ka» = currentsAfter from to f dt (s .y);
         «fault_current_ka» = s .«fault_current_ka»;
         «breaker_states» = s .«breaker_states»;
       }
@@ -70,3 +74,20 @@ module _ (w : Network) where
 
   abbrev pub rk4Step : Drain → DcTransientState → Float → DcTransientState
   rk4Step d s dt = stepBy stationsIn cablesIn (end (w .from)) (end (w .to)) (slopes d) s dt
+
+-- A network whose tables are lent, and what a step on lent arrays leaves: y and the station currents after the step.
+abbrev pub networkWith : (n m : ℕ) → (from to : List ℕ) → (r l c : List Float) → Network
+networkWith n m from to r l c =
+    record {
+      «n_stations» = n;
+      «n_cables» = m;
+      from = from;
+      to = to;
+      «resistance_ohm» = r;
+      «inductance_h» = l;
+      «capacitance_f» = c;
+    }
+
+pub record SteppedTo (w : Network) (d : Drain) (dt : Float) (y y′ currents′ : List Float) : Type 0 where
+  pub numbers : y′ ≡ newState (stationsIn w) (cablesIn w) (slopes w d) dt y
+  pub currents : currents′ ≡ currentsAfter (stationsIn w) (cablesIn w) (end (w .from)) (end (w .to)) (slopes w d) dt y

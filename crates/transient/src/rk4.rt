@@ -8,7 +8,7 @@ ghost use Rattle.float64.specs.Arithmetic.{of};
 ghost use Rattle.float64.specs.Choice.{maxOf};
 ghost use Rattle.network.specs.Network.{end};
 ghost use Rattle.transient.specs.Derivatives.{derivatives};
-ghost use Rattle.transient.specs.Rk4.{ahead, blended, weighted, rk4, rk4Step};
+ghost use Rattle.transient.specs.Rk4.{ahead, blended, weighted, rk4, rk4Step, networkWith, SteppedTo};
 use crate::derivatives::net_currents;
 use crate::derivatives::state_derivatives;
 use crate::state::DcTransientState;
@@ -25,7 +25,7 @@ struct Slopes {
     k4: f64,
 }
 
-// DcSwitchingSimulator::rk4_step. The arrays are taken out of the structs once and lent to the stages, so that none copies them.
+// DcSwitchingSimulator::rk4_step
 pub fn rk4_step(
     network: Network,
     drain: Drain,
@@ -34,27 +34,63 @@ pub fn rk4_step(
 ) -> DcTransientState
     ensures { λ r. ⌜ r ≡ rk4Step network drain state «dt_s» ⌝ }
 {
-    let n = present(network.n_stations, 32);
-    let m = present(network.n_cables, 64);
     let from = network.from;
     let to = network.to;
     let r = network.resistance_ohm;
     let l = network.inductance_h;
     let c = network.capacitance_f;
-    let y = state.y;
+    let mut y = state.y;
+    let mut currents = state.station_currents_ka;
     let breaker_states = state.breaker_states;
-    let mut y_new = [0.0; 96];
-    combine_stages(&mut y_new, &y, dt_s, &from, &to, &r, &l, &c, drain, n, m);
-    raise_voltages(&mut y_new, n);
-    let mut currents = [0.0; 32];
-    net_currents(&mut currents, &from, &to, &y_new, n, m);
+    let n = network.n_stations;
+    let m = network.n_cables;
+    rk4_step_lent(
+        &mut y,
+        &mut currents,
+        &from,
+        &to,
+        &r,
+        &l,
+        &c,
+        drain,
+        n,
+        m,
+        dt_s,
+    );
     DcTransientState {
         time_ms: state.time_ms,
-        y: y_new,
+        y,
         station_currents_ka: currents,
         fault_current_ka: state.fault_current_ka,
         breaker_states,
     }
+}
+
+// The same step for a loop over steps: the arrays are lent, so that none is copied in each turn but the new ones.
+pub fn rk4_step_lent(
+    y: &mut [f64; 96],
+    currents: &mut [f64; 32],
+    from: &[usize; 64],
+    to: &[usize; 64],
+    r: &[f64; 64],
+    l: &[f64; 64],
+    c: &[f64; 32],
+    drain: Drain,
+    n_stations: usize,
+    n_cables: usize,
+    dt_s: f64,
+)
+    ensures { λ _. ⌜ SteppedTo (networkWith «n_stations» «n_cables» (now (from .entry)) (now (to .entry)) (now (r .entry)) (now (l .entry)) (now (c .entry))) drain «dt_s» (now (y .entry)) (now (y .exit)) (now (currents .exit)) ⌝ }
+{
+    let n = present(n_stations, 32);
+    let m = present(n_cables, 64);
+    let mut y_new = [0.0; 96];
+    combine_stages(&mut y_new, y, dt_s, from, to, r, l, c, drain, n, m);
+    raise_voltages(&mut y_new, n);
+    let mut nets = [0.0; 32];
+    net_currents(&mut nets, from, to, &y_new, n, m);
+    *y = y_new;
+    *currents = nets;
 }
 
 // The four stages and their sum, into zeros: k1 at the start, k2 and k3 half a step on, k4 a whole step on.

@@ -1,11 +1,11 @@
 //! Jobs on grids: most fields lie well inside their ranges, and a few values stand at the ends of what the rules accept.
 
-use super::{circuits, detections, points, steps, Drawn, Put, Random};
+use super::{circuits, detections, points, runs, steps, Drawn, Put, Random};
 use crate::dc_switching::{total_steps, DcSwitchingSimulator};
 use crate::grids::{BREAKERS, CABLES, STATIONS};
 use crate::jobs::{
-    has_fault, is_point, CIRCUIT, DETECTION, FAULT_RUN, LCC_POINT, STEP, SWEEP, SWITCHING_RUN,
-    TIMES, VSC_POINT,
+    has_fault, is_kept, is_point, CIRCUIT, DETECTION, FAULT_RUN, LCC_POINT, STEP, SWEEP,
+    SWITCHING_RUN, TIMES, VSC_POINT,
 };
 use crate::numbers::double;
 use crate::plan::{Accepted, End, Field, Plan, MMC};
@@ -117,9 +117,10 @@ fn plan(job: u64, counts: [u64; 3], random: &mut Random) -> Plan {
         }
         CIRCUIT => plan.rest = circuits::rest(&plan, random),
         SWITCHING_RUN => {
-            plan.rest = vec![magnitude(random), random.below(2)];
+            plan.rest = runs::switched(&plan, random);
             plan.rest.extend(calls(random));
         }
+        _ if is_kept(job) => plan.rest = runs::rest_of_kept(&plan, random),
         SWEEP => {
             // Often all tenths, so that either can be set to any without passing the other.
             let low = random.below(LAST_TENTH + 1) * random.below(2);
@@ -154,7 +155,7 @@ pub fn breaker(random: &mut Random) -> [u64; 7] {
 }
 
 /// A whole number of any size.
-fn magnitude(random: &mut Random) -> u64 {
+pub fn magnitude(random: &mut Random) -> u64 {
     let places = random.below(64);
     random.bits() >> places
 }

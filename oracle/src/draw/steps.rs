@@ -4,7 +4,7 @@ use super::flows::{ends, held, stations};
 use super::grids::{breaker, inside, seen_in, set_inside, times};
 use super::{any_form, neighbour, power_of_ten, Drawn, Random};
 use crate::grids::CABLES;
-use crate::jobs::STEP;
+use crate::jobs::{has_fault, STEP};
 use crate::numbers::double;
 use crate::plan::{Plan, MMC};
 use crate::rules::{
@@ -22,8 +22,8 @@ pub fn job(random: &mut Random) -> Drawn {
     }
 }
 
-/// A job on a grid with a fault, which no rule of a fault run refuses. Half of the grids have usual parts alone, since the least
-/// inductance or capacitance throws the voltages far off in one step.
+/// A job on a grid, with a fault if it has one, which no rule of a fault run refuses. Half of the grids have usual parts alone, since
+/// the least inductance or capacitance throws the voltages far off in one step.
 pub fn grid(job: u64, random: &mut Random) -> Plan {
     let n = stations(random);
     let parts = random.pick(&[Parts::Usual, Parts::Any]);
@@ -36,7 +36,9 @@ pub fn grid(job: u64, random: &mut Random) -> Plan {
         set_inside(&mut plan, field, random);
     }
     plan.times = times(random);
-    plan.event = fault(plan.counts[1], random);
+    if has_fault(job) {
+        plan.event = fault(plan.counts[1], random);
+    }
     plan
 }
 

@@ -17,7 +17,7 @@ pub fn steps(plans: &mut Vec<Plan>) {
 }
 
 /// R, L and C of all its kilometres.
-fn cable(from: u64, to: u64, ohms: f64, mh: f64, uf: f64, km: f64) -> Cable {
+pub fn cable(from: u64, to: u64, ohms: f64, mh: f64, uf: f64, km: f64) -> Cable {
     let [ohms, mh, uf] = [ohms, mh, uf].map(|x| (x / km.max(1.0)).to_bits());
     [0, from, to, ohms, mh, uf, km.to_bits()]
 }
@@ -45,7 +45,7 @@ fn fault(cable: u64, fraction: f64, ohms: f64) -> Vec<u64> {
 
 /// Four stations of the four topologies. Beside the cables that join them there is one from a station to itself, one of no length
 /// between the first two, and two with an end past the count.
-fn four() -> Plan {
+pub fn four() -> Plan {
     let mmc = |submodules| station(MMC, submodules, 500.0, 1000.0);
     step(
         &[

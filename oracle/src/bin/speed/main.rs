@@ -1,8 +1,9 @@
-//! Times the library's E, S, C and square root, its fastest breaker, its operating points, flows, steps and fault currents beside the
-//! Rust's, in one run and on the same arguments, and compares the results; and times the library's refusals, which the Rust does not
-//! have.
+//! Times the library's E, S, C and square root, its fastest breaker, its operating points, flows, steps, fault currents and whole runs
+//! beside the Rust's, in one run and on the same arguments, and compares the results; and times the library's refusals, which the Rust
+//! does not have.
 
 mod flows;
+mod runs;
 mod steps;
 
 use oracle::dc_switching::{
@@ -325,7 +326,7 @@ fn main() {
         println!("a root takes {:.2} of the time of two E", root / (2.0 * e));
     }
     different += fastest() + refusals() + flows::points() + flows::flows();
-    different += steps::steps() + steps::currents();
+    different += steps::steps() + steps::currents() + runs::runs();
     println!("{different} results differ");
     exit(if different == 0 { 0 } else { 1 });
 }

@@ -15,10 +15,10 @@ extern "C" {
 }
 
 /// The power of each station, which its capacitance follows from.
-const EACH_MW: f64 = 1000.0;
+pub const EACH_MW: f64 = 1000.0;
 const DT_S: f64 = 1e-6;
 
-fn sample_fault() -> DcFaultEvent {
+pub fn sample_fault() -> DcFaultEvent {
     DcFaultEvent {
         fault_type: DcFaultType::PoleToGround,
         location_cable_id: 0,
@@ -65,9 +65,10 @@ const OHMS: [(&str, f64); 2] = [("swinging", 0.01), ("settling", 10.0)];
 
 /// The times of the Rust's loop and the library's in nanoseconds per call, in turns, from the shortest to the longest, and their sums.
 /// What a loop of no turn takes, which builds the grid, is taken off.
-fn in_turns<F: Copy>(
+pub fn in_turns<F: Copy>(
     loops: [F; 2],
     count: u64,
+    rounds: usize,
     run: impl Fn(F, u64) -> f64,
 ) -> ([Vec<f64>; 2], [f64; 2]) {
     let timed = |f: F, count: u64| {
@@ -77,12 +78,12 @@ fn in_turns<F: Copy>(
         (began.elapsed().as_nanos() as f64, sum)
     };
     let built = loops.map(|f| {
-        let times = (0..ROUNDS).map(|_| timed(f, 0).0);
+        let times = (0..rounds).map(|_| timed(f, 0).0);
         times.fold(f64::INFINITY, f64::min)
     });
     let mut times = [Vec::new(), Vec::new()];
     let mut sums = [0.0; 2];
-    for round in 0..ROUNDS {
+    for round in 0..rounds {
         for turn in 0..2 {
             let which = (round + turn) % 2;
             let (ns, sum) = timed(loops[which], count);
@@ -96,7 +97,7 @@ fn in_turns<F: Copy>(
     (times, sums)
 }
 
-fn head(title: &str, of: &str) {
+pub fn head(title: &str, of: &str) {
     println!(
         "{title:<16} {:>10} {:>9} {:>9} {:>10} {:>9} {:>9}   {of}, best and median",
         "Rust", "library", "ratio", "Rust", "library", "ratio"
@@ -104,9 +105,9 @@ fn head(title: &str, of: &str) {
 }
 
 /// Prints a row, and says whether the sums differ.
-fn row(name: &str, times: [Vec<f64>; 2], sums: [f64; 2], unit_ns: f64) -> usize {
+pub fn row(name: &str, times: [Vec<f64>; 2], sums: [f64; 2], unit_ns: f64) -> usize {
     print!("{name:<16}");
-    for at in [0, ROUNDS / 2] {
+    for at in [0, times[0].len() / 2] {
         let [rust, library] = [times[0][at], times[1][at]];
         print!(
             " {:>10.3} {:>9.3} {:>9.2}",
@@ -129,7 +130,7 @@ pub fn steps() -> usize {
     let mut different = 0;
     head("steps", "us");
     for (stations, cables, count) in GRIDS {
-        let (times, sums) = in_turns(STEPS, count, |f, count| unsafe {
+        let (times, sums) = in_turns(STEPS, count, ROUNDS, |f, count| unsafe {
             f(black_box(stations), black_box(cables), count)
         });
         different += row(&format!("{stations}/{cables}"), times, sums, 1000.0);
@@ -142,7 +143,7 @@ pub fn currents() -> usize {
     let mut different = 0;
     head("fault currents", "ns");
     for (name, ohms) in OHMS {
-        let (times, sums) = in_turns(CURRENTS, TIMES, |f, count| unsafe {
+        let (times, sums) = in_turns(CURRENTS, TIMES, ROUNDS, |f, count| unsafe {
             f(black_box(ohms), count)
         });
         different += row(name, times, sums, 1.0);

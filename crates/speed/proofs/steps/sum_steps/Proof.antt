@@ -45,11 +45,8 @@ loop-less c = search needs
 loop-again : tie.Need-loop-again Inv-loop μ-loop
 loop-again c = search needs
 
-sum-entries-requires : tie.Need-sum-entries-requires Inv-loop μ-loop
-sum-entries-requires c κs = search needs
-
-sum-currents-requires : tie.Need-sum-currents-requires Inv-loop μ-loop
-sum-currents-requires c κs = search needs
+sum-state-requires : tie.Need-sum-state-requires Inv-loop μ-loop
+sum-state-requires c κs = search needs
 
 returns : tie.Need-returns Inv-loop μ-loop
 returns c = search needs
@@ -72,6 +69,5 @@ sum-steps-spec =
     sub-left
     loop-less
     loop-again
-    sum-entries-requires
-    sum-currents-requires
+    sum-state-requires
     returns)

@@ -1,16 +1,11 @@
 -- `record_length` meets its contract. Assumes nothing.
-use Prim.Native.Nat.{ℕ, _+_, _*_, min}
+use Prim.Native.Nat.{ℕ, _+_, _*_}
 use mathlib.Core.Path.{_≡_}
-use mathlib.Core.List.{List}
 use native.Mathlib.Omega.{arith}
-use lib.ListN.{length, take, length-take}
 use borrow.Author.Needs.{needs}
-use Rattle.lists.proofs.Scanning.{unmapped}
+use Rattle.lists.proofs.Scanning.{unmapped, length-cut}
 use Rattle.timing.proofs.steps.record_length.Statement.{statement}
 use Rattle.timing.proofs.steps.record_length.Tie as tie
-
-counted : {A : Type 0} (xs : List A) (n m k : ℕ) → length xs ≡ m → k ≡ min n m → k ≡ length (take n xs)
-counted xs n m k l e = rw (length-take, l) e
 
 numbers : {s c b s' c' b' : ℕ} → s ≡ s' → c ≡ c' → b ≡ b' → 2 + 2 * s + c + b ≡ 2 + s' + s' + c' + b'
 numbers p q r = omega arith
@@ -39,7 +34,7 @@ add-result-3 c = search needs
 returns : tie.Need-returns
 returns c =
     let a = c .before .before .before .args in
-    numbers (counted (a .g .stations) _ 32 _ (search (needs, unmapped)) (c .before .before .present .ensures)) (counted (a .g .cables) _ 64 _ (search (needs, unmapped)) (c .before .present2 .ensures)) (counted (a .g .breakers) _ 32 _ (search (needs, unmapped)) (c .present3 .ensures))
+    numbers (length-cut (a .g .stations) _ 32 _ (search (needs, unmapped)) (c .before .before .present .ensures)) (length-cut (a .g .cables) _ 64 _ (search (needs, unmapped)) (c .before .present2 .ensures)) (length-cut (a .g .breakers) _ 32 _ (search (needs, unmapped)) (c .present3 .ensures))
 
 pub record-length-spec : {M : Type 1} → statement M
 record-length-spec =

@@ -1,0 +1,8 @@
+mod Parts
+mod Turns
+mod FaultLoop
+mod SwitchingLoop
+mod Controls
+pub mod Claims
+pub mod Refusals
+pub mod Tied

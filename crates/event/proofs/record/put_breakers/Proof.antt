@@ -1,0 +1,78 @@
+-- `put_breakers` meets its contract. Assumes nothing.
+use Rattle.lists.proofs.Counting.{at-end}
+use Rattle.lists.proofs.Stores.{sets-more}
+use Rattle.lists.specs.Tables.{tab}
+use lib.ListN.{length, length-set}
+use lib.Seq.{sets}
+use native.Mathlib.Omega.{arith}
+use Prim.Native.Nat.{_+_, _-_, _≤_}
+use mathlib.Core.Path.{_≡_, refl, ap, _∙_}
+use Rattle.event.specs.Records.{closedNumber}
+use lib.ListN.{getD}
+use mathlib.Core.Bool.{false}
+use borrow.Author.Needs.{needs}
+use Rattle.event.proofs.record.put_breakers.Statement.{statement}
+use Rattle.event.proofs.record.put_breakers.Tie as tie
+
+abbrev Inv-loop : tie.InvT-loop
+Inv-loop records₀ at breakers n i₀ records i = (i ≤ n) × (length records ≡ length records₀) × (records ≡ sets records₀ at (tab i (λ k. closedNumber (getD breakers k false))))
+
+abbrev μ-loop : tie.MeasureT-loop
+μ-loop records₀ at breakers n i₀ records i = n - i
+
+loop-holds : tie.Need-loop-holds Inv-loop μ-loop
+unfolding tab
+loop-holds c = (omega arith, refl, refl)
+
+element-copy-out-closed-number : tie.Need-element-copy-out-closed-number Inv-loop μ-loop
+element-copy-out-closed-number c = search needs
+
+closed-number-requires : tie.Need-closed-number-requires Inv-loop μ-loop
+closed-number-requires c κs = search needs
+
+add-records : tie.Need-add-records Inv-loop μ-loop
+add-records c = search needs
+
+mul-records : tie.Need-mul-records Inv-loop μ-loop
+mul-records c = search needs
+
+slice-write-records : tie.Need-slice-write-records Inv-loop μ-loop
+slice-write-records c = search needs
+
+add-i : tie.Need-add-i Inv-loop μ-loop
+add-i c = search needs
+
+loop-less : tie.Need-loop-less Inv-loop μ-loop
+loop-less c = search needs
+
+loop-again : tie.Need-loop-again Inv-loop μ-loop
+loop-again c =
+    let l = c .before .before .before in
+    let a = l .before .before .args in
+    (omega arith, simp length-set (l .loop .inv .1), sets-more (λ k. closedNumber (getD (a .breakers .now) k false)) (a .records .now) (a .at) (l .loop .i) (l .loop .inv .2) (c .closed-number .ensures))
+
+same-length : tie.Need-same-length Inv-loop μ-loop
+same-length c = search needs
+
+returns : tie.Need-returns Inv-loop μ-loop
+returns c =
+    let a = c .before .before .before .args in
+    at-end (λ k. sets (a .records .now) (a .at) (tab k (λ i. closedNumber (getD (a .breakers .now) i false)))) (c .before .loop .inv .0) (c .loop-test .left) (c .before .loop .inv .2)
+
+pub put-breakers-spec : {M : Type 1} → statement M
+put-breakers-spec =
+    tie.close
+    (tie.spec
+    Inv-loop
+    μ-loop
+    loop-holds
+    element-copy-out-closed-number
+    closed-number-requires
+    add-records
+    mul-records
+    slice-write-records
+    add-i
+    loop-less
+    loop-again
+    same-length
+    returns)

@@ -1,0 +1,124 @@
+-- `put_record` meets its contract. Assumes nothing.
+use Rattle.event.specs.Records.{recordWith, closedNumber}
+use Rattle.event.proofs.Parts.{laid-out}
+use Rattle.lists.specs.Tables.{tab}
+use Rattle.float64.specs.Arithmetic.{of}
+use Rattle.lists.proofs.Fills.{tab-same}
+use lib.Ieee.{Float}
+use mathlib.Core.List.{List}
+use Prim.Native.Nat.{ℕ, _+_}
+use mathlib.Core.Bool.{false}
+use lib.ListN.{length, getD, length-set}
+use lib.Seq.{length-sets}
+use native.Mathlib.Omega.{arith}
+use mathlib.Core.Path.{_≡_, ap, _∙_}
+use borrow.Author.Needs.{needs}
+use Rattle.event.proofs.record.put_record.Statement.{statement}
+use Rattle.event.proofs.record.put_record.Tie as tie
+
+from-first : (x : List Float) (n : ℕ) → tab n (λ i. of x (0 + i)) ≡ tab n (of x)
+from-first x n = tab-same n _ _ (λ k l. let e : 0 + k ≡ k = omega arith in ap (of x) e)
+
+after-1 : (c : tie.After-put-numbers) → length (c .put-numbers .last .0) ≡ length (c .before .before .before .before .args .records .now)
+after-1 c = ap length (c .put-numbers .ensures) ∙ simp (length-sets, length-set)
+
+after-2 : (c : tie.After-put-numbers2) → length (c .put-numbers2 .last .0) ≡ length (c .before .before .before .before .before .before .before .before .before .args .records .now)
+after-2 c = ap length (c .put-numbers2 .ensures) ∙ simp length-sets (after-1 (c .before .before .before .before .before))
+
+after-3 : (c : tie.After-put-numbers3) → length (c .put-numbers3 .last .0) ≡ length (c .before .before .before .before .before .before .before .before .before .before .before .before .before .before .args .records .now)
+after-3 c = ap length (c .put-numbers3 .ensures) ∙ simp length-sets (after-2 (c .before .before .before .before .before))
+
+mul-records : tie.Need-mul-records
+mul-records c = search needs
+
+slice-write-records : tie.Need-slice-write-records
+slice-write-records c = search needs
+
+add-records : tie.Need-add-records
+add-records c = search needs
+
+mul-records-2 : tie.Need-mul-records-2
+mul-records-2 c = search needs
+
+slice-write-records-2 : tie.Need-slice-write-records-2
+slice-write-records-2 c = simp length-set (omega arith)
+
+add-put-numbers : tie.Need-add-put-numbers
+add-put-numbers c = search needs
+
+put-numbers-requires : tie.Need-put-numbers-requires
+put-numbers-requires c κs = (simp length-set (omega (arith, c .before .before .before .pre .1)), search needs)
+
+add-put-numbers-2 : tie.Need-add-put-numbers-2
+add-put-numbers-2 c = search needs
+
+add-put-numbers-3 : tie.Need-add-put-numbers-3
+add-put-numbers-3 c = search needs
+
+put-numbers-requires-2 : tie.Need-put-numbers-requires-2
+put-numbers-requires-2 c κs = (omega (arith, after-1 (c .before .before .before .before), c .before .before .before .before .before .before .before .before .pre .1), search needs)
+
+add-put-numbers-4 : tie.Need-add-put-numbers-4
+add-put-numbers-4 c = search needs
+
+add-put-numbers-5 : tie.Need-add-put-numbers-5
+add-put-numbers-5 c = search needs
+
+add-put-numbers-6 : tie.Need-add-put-numbers-6
+add-put-numbers-6 c = search needs
+
+put-numbers-requires-3 : tie.Need-put-numbers-requires-3
+put-numbers-requires-3 c κs = (omega (arith, after-2 (c .before .before .before .before), c .before .before .before .before .before .before .before .before .before .before .before .before .before .pre .1), search needs)
+
+add-put-breakers : tie.Need-add-put-breakers
+add-put-breakers c = search needs
+
+add-put-breakers-2 : tie.Need-add-put-breakers-2
+add-put-breakers-2 c = search needs
+
+add-put-breakers-3 : tie.Need-add-put-breakers-3
+add-put-breakers-3 c = search needs
+
+add-put-breakers-4 : tie.Need-add-put-breakers-4
+add-put-breakers-4 c = search needs
+
+put-breakers-requires : tie.Need-put-breakers-requires
+put-breakers-requires c κs = (omega (arith, after-3 (c .before .before .before), c .before .before .before .before .before .before .before .before .before .before .before .before .before .before .before .before .before .pre .1), omega (arith, c .before .before .before .before .before .before .before .before .before .before .before .before .before .before .before .before .before .pre .0 .breakers))
+
+same-length : tie.Need-same-length
+same-length c = ap length (c .before .before .put-breakers .ensures) ∙ simp length-sets (after-3 (c .before .before .before .before .before .before))
+
+returns : tie.Need-returns
+unfolding recordWith
+returns c =
+    let p3 = c .before .before .before .before .before .before in
+    let p2 = p3 .before .before .before .before .before in
+    let p1 = p2 .before .before .before .before .before in
+    let a = p1 .before .before .before .before .args in
+    c .before .before .put-breakers .ensures ∙ rw (p3 .put-numbers3 .ensures, p2 .put-numbers2 .ensures, p1 .put-numbers .ensures, from-first (a .y .now) (a .counts .stations), from-first (a .«station-currents-ka» .now) (a .counts .stations)) (laid-out (a .records .now) (a .at) (a .counts .stations) (a .counts .cables) (a .«time-ms») (a .«fault-current-ka») (of (a .y .now)) (of (a .«station-currents-ka» .now)) (λ k. of (a .y .now) (a .counts .stations + k)) (tab (a .counts .breakers) (λ i. closedNumber (getD (a .«breaker-states» .now) i false))))
+
+pub put-record-spec : {M : Type 1} → statement M
+put-record-spec =
+    tie.close
+    (tie.spec
+    mul-records
+    slice-write-records
+    add-records
+    mul-records-2
+    slice-write-records-2
+    add-put-numbers
+    put-numbers-requires
+    add-put-numbers-2
+    add-put-numbers-3
+    put-numbers-requires-2
+    add-put-numbers-4
+    add-put-numbers-5
+    add-put-numbers-6
+    put-numbers-requires-3
+    add-put-breakers
+    add-put-breakers-2
+    add-put-breakers-3
+    add-put-breakers-4
+    put-breakers-requires
+    same-length
+    returns)

@@ -1,0 +1,4 @@
+pub mod Records
+pub mod FaultRuns
+pub mod SwitchingRuns
+pub mod Claims

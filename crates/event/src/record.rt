@@ -1,0 +1,114 @@
+// A state as a record in lent memory: time, fault current, voltages, station currents, cable currents, breakers.
+ghost use mathlib.Core.Path.{_≡_};
+ghost use mathlib.Core.Bool.{true, false, cond};
+ghost use mathlib.Core.List.{[]};
+ghost use Prim.Native.Nat.{_+_, _≤_};
+ghost use lib.ListN.{length, getD};
+ghost use lib.Seq.{sets};
+ghost use Rattle.lists.specs.Tables.{tab};
+ghost use Rattle.float64.specs.Arithmetic.{of};
+ghost use Rattle.event.specs.Records.{closedNumber, Counted, countsOf, numbersIn, recordBy};
+use grid::DcSwitchingSimulator;
+use grid::present;
+
+// How many of each a record has.
+pub struct RecordCounts {
+    pub stations: usize,
+    pub cables: usize,
+    pub breakers: usize,
+}
+
+pub fn record_counts(g: DcSwitchingSimulator) -> RecordCounts
+    ensures { λ r. ⌜ r ≡ countsOf g ⌝ }
+{
+    RecordCounts {
+        stations: present(g.n_stations, 32),
+        cables: present(g.n_cables, 64),
+        breakers: present(g.n_breakers, 32),
+    }
+}
+
+// Writes the record of a step that is recorded from a position on, and says how many records that were.
+pub fn put_if_recorded(
+    recorded: bool,
+    records: &mut [f64],
+    at: usize,
+    time_ms: f64,
+    fault_current_ka: f64,
+    y: &[f64; 96],
+    station_currents_ka: &[f64; 32],
+    breaker_states: &[bool; 32],
+    counts: RecordCounts,
+) -> usize
+    requires { ⌜ Counted counts × (recorded ≡ true → at + numbersIn counts ≤ length (now records)) ⌝ }
+    ensures { λ r. ⌜ (r ≡ cond recorded 1 0) × (now (records .exit) ≡ sets (now (records .entry)) at (cond recorded (recordBy counts «time_ms» «fault_current_ka» (now (y .entry)) (now («station_currents_ka» .entry)) (now («breaker_states» .entry))) [])) ⌝ }
+{
+    if recorded {
+        put_record(
+            records,
+            at,
+            time_ms,
+            fault_current_ka,
+            y,
+            station_currents_ka,
+            breaker_states,
+            counts,
+        );
+        return 1;
+    }
+    0
+}
+
+fn put_record(
+    records: &mut [f64],
+    at: usize,
+    time_ms: f64,
+    fault_current_ka: f64,
+    y: &[f64; 96],
+    station_currents_ka: &[f64; 32],
+    breaker_states: &[bool; 32],
+    counts: RecordCounts,
+)
+    requires { ⌜ Counted counts × (at + numbersIn counts ≤ length (now records)) ⌝ }
+    ensures { λ _. ⌜ now (records .exit) ≡ sets (now (records .entry)) at (recordBy counts «time_ms» «fault_current_ka» (now (y .entry)) (now («station_currents_ka» .entry)) (now («breaker_states» .entry))) ⌝ }
+{
+    let n = counts.stations;
+    let m = counts.cables;
+    let b = counts.breakers;
+    records[at] = time_ms;
+    records[at + 1] = fault_current_ka;
+    put_numbers(records, at + 2, y, 0, n);
+    put_numbers(records, at + 2 + n, station_currents_ka, 0, n);
+    put_numbers(records, at + 2 + n + n, y, n, m);
+    put_breakers(records, at + 2 + n + n + m, breaker_states, b);
+}
+
+// n numbers from the first on.
+fn put_numbers(records: &mut [f64], at: usize, numbers: &[f64], first: usize, n: usize)
+    requires { ⌜ (at + n ≤ length (now records)) × (first + n ≤ length (now numbers)) ⌝ }
+    ensures { λ _. ⌜ now (records .exit) ≡ sets (now (records .entry)) at (tab n (λ i. of (now (numbers .entry)) (first + i))) ⌝ }
+{
+    let mut i = 0;
+    while i < n {
+        records[at + i] = numbers[first + i];
+        i += 1;
+    }
+}
+
+// 1 closed, 0 open.
+fn put_breakers(records: &mut [f64], at: usize, breakers: &[bool; 32], n: usize)
+    requires { ⌜ (at + n ≤ length (now records)) × (n ≤ 32) ⌝ }
+    ensures { λ _. ⌜ now (records .exit) ≡ sets (now (records .entry)) at (tab n (λ i. closedNumber (getD (now (breakers .entry)) i false))) ⌝ }
+{
+    let mut i = 0;
+    while i < n {
+        records[at + i] = closed_number(breakers[i]);
+        i += 1;
+    }
+}
+
+fn closed_number(closed: bool) -> f64
+    ensures { λ r. ⌜ r ≡ closedNumber closed ⌝ }
+{
+    if closed { 1.0 } else { 0.0 }
+}

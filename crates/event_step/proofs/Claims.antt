@@ -1,0 +1,120 @@
+-- The claims of specs/Claims. Assumes nothing.
+use Prim.Native.Nat.{ℕ, _≤_, _<_, min}
+use native.Mathlib.Omega.{arith}
+use mathlib.Core.Path.{_≡_, refl, ap}
+use mathlib.Core.Bool.{Bool, true, false, not, _&&_, _||_, cond}
+use lib.Ieee.{Float, nan, le}
+use Rattle.lists.specs.Tables.{padded}
+use Rattle.lists.proofs.Fills.{getD-padded}
+use Rattle.float64.specs.Constants.{nought, milli}
+use Rattle.float64.specs.Arithmetic.{_⊗_}
+use Rattle.grid.specs.declared.parts.DcFaultEvent.{DcFaultEvent}
+use Rattle.grid.specs.declared.simulator.DcSwitchingSimulator.{DcSwitchingSimulator}
+use Rattle.timing.specs.Steps.{timeStepMs, timeOfStep}
+use Rattle.network.specs.Network.{networkOf, drainOf, noDrain}
+use Rattle.transient.proofs.Claims.{network-claims}
+use Rattle.fault_circuit.specs.Circuit.{circuitAt}
+use Rattle.fault_circuit.proofs.Claims.{current-claims}
+use Rattle.event_step.specs.declared.variables.FaultVariables.{FaultVariables}
+use Rattle.event_step.specs.declared.variables.SwitchingVariables.{SwitchingVariables}
+use Rattle.event_step.specs.Fault.{Setting, rated, settingOf, faultBody, body, activeAt, whileFaulted, afterClearing, beforeInception}
+use Rattle.event_step.specs.Switching.{SwitchSetting, switchBody, switchSettingOf, switchingBody}
+use Rattle.event_step.specs.Plans.{planOf, planStep, settingWith, networkLent, switchingPlanOf, switchSettingWith, switchingPlanStep}
+use Rattle.event_step.specs.Claims.{PlanClaims, StepClaims}
+use Rattle.event_step.proofs.Settings.{Agree, body-same}
+
+all-of-them : (n m : ℕ) → n ≤ m → min (min n m) m ≡ n
+all-of-them n m h = omega arith
+
+module _ (g : DcSwitchingSimulator) (f : DcFaultEvent) (n : g .«n_stations» ≤ 32) (m : g .«n_cables» ≤ 64) where
+  -- the plan's setting and the grid's
+  agree : let p = planOf g f in Agree (settingWith (p .constants) (networkLent (p .constants) (p .network .from) (p .network .to) (p .network .«resistance_ohm») (p .network .«inductance_h») (p .network .«capacitance_f»)) (p .«rated_kv»)) (settingOf g f)
+  unfolding planOf networkOf circuitAt
+  agree =
+      record {
+        stations = all-of-them (g .«n_stations») 32 n;
+        rated = λ i l. getD-padded 96 (min (g .«n_stations») 32) (rated (g .stations)) nought nan i (omega arith) (omega arith);
+        dt = refl;
+        duration = refl;
+        clear = refl;
+        inception = refl;
+        resistance = refl;
+        rk4 = λ s. network-claims .step g (drainOf g f) s (timeStepMs g ⊗ milli) n m;
+        current = λ t. current-claims .worked-out-once g f t;
+        left = λ i c t. refl;
+      }
+
+  plan-step : (step : ℕ) (v : FaultVariables) → planStep (planOf g f) step v ≡ faultBody g f step v
+  unfolding planStep faultBody
+  plan-step step v = body-same _ _ agree step v
+
+module _ (g : DcSwitchingSimulator) (number : ℕ) (opens : Bool) (n : g .«n_stations» ≤ 32) (m : g .«n_cables» ≤ 64) (b : g .«n_breakers» ≤ 32) where
+  same-setting : switchSettingWith (switchingPlanOf g number opens) ≡ switchSettingOf g number opens
+  unfolding switchingPlanOf networkOf
+  same-setting =
+      λ i.
+      record {
+        stations = all-of-them (g .«n_stations») 32 n i;
+        cables = all-of-them (g .«n_cables») 64 m i;
+        breakers = all-of-them (g .«n_breakers») 32 b i;
+        number = number;
+        opens = opens;
+        dt = timeStepMs g;
+        switching = switchSettingOf g number opens .switching;
+        rk4 = λ s. network-claims .step g noDrain s (timeStepMs g ⊗ milli) n m i;
+      }
+
+  switching-plan-step : (step : ℕ) (v : SwitchingVariables) → switchingPlanStep (switchingPlanOf g number opens) step v ≡ switchingBody g number opens step v
+  unfolding switchingPlanStep switchingBody
+  switching-plan-step step v = ap (λ (z : SwitchSetting). switchBody z step v) same-setting
+
+pub plan-claims : PlanClaims
+plan-claims = record { fault = plan-step; switching = switching-plan-step }
+
+of-three : {A : Type 0} (b c : Bool) (P : A → Type 0) (x y w : A) → P x → P y → P w → P (cond b x (cond c y w))
+of-three true c P x y w p q r = p
+of-three false true P x y w p q r = q
+of-three false false P x y w p q r = r
+
+-- what each of the branches has, the body has
+module _ (g : DcSwitchingSimulator) (f : DcFaultEvent) (step : ℕ) (v : FaultVariables) where
+  abbrev z : Setting
+  z = settingOf g f
+
+  abbrev t : Float
+  t = timeOfStep g step
+
+  each-branch : (P : FaultVariables → Type 0) → P (whileFaulted z t v) → P (afterClearing z t v) → P (beforeInception z t v) → P (faultBody g f step v)
+  unfolding faultBody body
+  each-branch P a b c = of-three (activeAt z t v && not (v .«fault_cleared»)) (v .«fault_cleared») P _ _ _ a b c
+
+  time : faultBody g f step v .state .«time_ms» ≡ t
+  unfolding whileFaulted afterClearing beforeInception
+  time = each-branch (λ w. w .state .«time_ms» ≡ t) refl refl refl
+
+  is-waiting : v .«fault_active» ≡ false → v .«fault_cleared» ≡ false → le (f .«inception_time_ms») t ≡ false → faultBody g f step v ≡ beforeInception z t v
+  unfolding faultBody body
+  is-waiting a c l = rw (a, c, l)
+
+  waiting : v .«fault_active» ≡ false → v .«fault_cleared» ≡ false → le (f .«inception_time_ms») t ≡ false → faultBody g f step v .state .y ≡ v .state .y
+  unfolding beforeInception
+  waiting a c l = ap (λ (w : FaultVariables). w .state .y) (is-waiting a c l)
+
+  not-both : (a : Bool) → (a && not true) ≡ false
+  not-both true = refl
+  not-both false = refl
+
+  is-cleared : v .«fault_cleared» ≡ true → faultBody g f step v ≡ afterClearing z t v
+  unfolding faultBody body
+  is-cleared c = rw (c, not-both (activeAt z t v))
+
+  cleared : v .«fault_cleared» ≡ true → (faultBody g f step v .state .«station_currents_ka» ≡ v .state .«station_currents_ka») × (faultBody g f step v .«peak_fault_ka» ≡ v .«peak_fault_ka») × (faultBody g f step v .«energy_mj» ≡ v .«energy_mj»)
+  unfolding afterClearing
+  cleared c = rw (is-cleared c) (refl, refl, refl)
+
+  stays : v .«fault_cleared» ≡ true → faultBody g f step v .«fault_cleared» ≡ true
+  unfolding afterClearing
+  stays c = rw (is-cleared c)
+
+pub step-claims : StepClaims
+step-claims = record { fault-time = time; before-inception = waiting; after-clearing = cleared; stays-cleared = stays }

@@ -1,0 +1,6 @@
+pub mod Breakers
+pub mod Body
+mod Settings
+pub mod Claims
+pub mod Tied
+mod Controls

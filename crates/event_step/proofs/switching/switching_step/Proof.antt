@@ -1,0 +1,41 @@
+-- `switching_step` meets its contract. Assumes nothing.
+use Rattle.event_step.specs.Switching.{switchBody, operatedState}
+use Rattle.event_step.specs.Plans.{switchingPlanStep}
+use borrow.Author.Needs.{needs}
+use Rattle.event_step.proofs.switching.switching_step.Statement.{statement}
+use Rattle.event_step.proofs.switching.switching_step.Tie as tie
+
+nearest-u64-to-f64-requires : tie.Need-nearest-u64-to-f64-requires
+nearest-u64-to-f64-requires c κs = search needs
+
+operate-requires : tie.Need-operate-requires
+operate-requires c κs = search needs
+
+interrupt-requires : tie.Need-interrupt-requires
+interrupt-requires c κs = search needs
+
+no-drain-requires : tie.Need-no-drain-requires
+no-drain-requires c κs = search needs
+
+rk4-step-requires : tie.Need-rk4-step-requires
+rk4-step-requires c κs = search needs
+
+returns : tie.Need-returns
+unfolding switchingPlanStep switchBody operatedState
+returns c =
+    let d = c .before .before .before in
+    let i = d .before in
+    let o = i .before .before .before in
+    let q = o .before .before .before .before .before .before .before .before .before in
+    rw (c .before .rk4-step .ensures, d .no-drain .ensures, i .interrupt .ensures, o .operate .ensures, q .nearest-u64-to-f64 .ensures)
+
+pub switching-step-spec : {M : Type 1} → statement M
+switching-step-spec =
+    tie.close
+    (tie.spec
+    nearest-u64-to-f64-requires
+    operate-requires
+    interrupt-requires
+    no-drain-requires
+    rk4-step-requires
+    returns)

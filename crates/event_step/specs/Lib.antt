@@ -1,0 +1,5 @@
+pub mod Constants
+pub mod Fault
+pub mod Switching
+pub mod Plans
+pub mod Claims

@@ -1,0 +1,7 @@
+pub mod Joined
+pub mod Loop
+pub mod Course
+pub mod Multiples
+pub mod Cases
+pub mod Demand3
+mod Controls

@@ -1,0 +1,6 @@
+pub mod Stopping
+pub mod Tally
+pub mod Calls
+pub mod Course
+pub mod Cases
+pub mod Demand3
