@@ -21,7 +21,7 @@ use Rattle.event_step.specs.Fault.{faultBody, faultAfter}
 use Rattle.event_step.specs.Switching.{switchingBody, switchingAfter}
 use Rattle.event.specs.declared.result.DcTransientResult.{DcTransientResult}
 use Rattle.event.specs.Records.{recordOf}
-use Rattle.event.specs.FaultRuns.{faultRunRefused, faultStepper, faultRunAfter, startedFaultRun, blankFaultRun, faultFigures, faultResults, faultVariables}
+use Rattle.event.specs.FaultRuns.{faultRunRefused, faultStepper, faultRunAfter, startedFaultRun, blankFaultRun, faultFigures, faultResults, figuresSoFar}
 use Rattle.event.specs.SwitchingRuns.{switchingRunRefused, switchingStepper, switchingRunAfter, startedSwitchingRun, blankSwitchingRun, switchingResults}
 use Rattle.event.specs.Claims.{Run, faultRun, switchingRun, statesAfter, Calls, InPortions, RunClaims}
 use Rattle.event.proofs.Turns.{Kind, joined-one, count-one, length-one, record-long}
@@ -112,7 +112,7 @@ module _ (g : DcSwitchingSimulator) (f : DcFaultEvent) (z : faultRefusal g f ≡
   unfolding faultFigures
   fault-figures = rw (step-claims .counted (stepsOf g) (accepted-claims .fault g f z), eq-eqb (stepsOf g) (stepsOf g) refl)
 
-  fault-figures-before : (t : ℕ) → t < stepsOf g → faultFigures (faultRunAfter g f t) ≡ faultVariables (faultAfter g f t)
+  fault-figures-before : (t : ℕ) → t < stepsOf g → faultFigures (faultRunAfter g f t) ≡ figuresSoFar (faultAfter g f t)
   unfolding faultFigures
   fault-figures-before t l = rw (step-claims .counted (stepsOf g) (accepted-claims .fault g f z), ne-eqb t (stepsOf g) (λ e. omega arith))
 

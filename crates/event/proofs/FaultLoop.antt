@@ -61,7 +61,7 @@ module _ (s : FaultRun) (h : faultRunRefused s ≡ false) where
 pub returned : {s₀ : FaultRun} {allowance : ℕ} {lent₀ : List Float} {steps out : ℕ} {stop : Stop} {s : FaultRun} {lent : List Float} → Came faultStepper s₀ allowance lent₀ steps out stop s lent
     → (_≡_ {A = AdvancedFaultRun} (record { stop = stop; steps = steps; records = out; run = s }) (advancedFaultRun s₀ allowance lent₀)) × (lent ≡ memoryOf faultStepper s₀ allowance lent₀)
 unfolding advancedFaultRun
-returned c = (λ i. record { stop = c .stop-is i; steps = c .steps-is i; records = c .count-is i; run = c .kept-is i }, c .memory-is)
+returned c = (λ i. record { stop = c .stop-is i; steps = c .steps-is i; records = c .count-is i; run = c .kept-is i }, c .left-is)
 
 -- the run that is advanced, its variables taken apart
 module _ (s : FaultRun) (x : FaultScalars) (e : x ≡ scalarsOf (s .variables)) where

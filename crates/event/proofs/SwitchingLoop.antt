@@ -62,4 +62,4 @@ module _ (s : SwitchingRun) (h : switchingRunRefused s ≡ false) where
 pub returned : {s₀ : SwitchingRun} {allowance : ℕ} {lent₀ : List Float} {steps out : ℕ} {stop : Stop} {s : SwitchingRun} {lent : List Float} → Came switchingStepper s₀ allowance lent₀ steps out stop s lent
     → (_≡_ {A = AdvancedSwitchingRun} (record { stop = stop; steps = steps; records = out; run = s }) (advancedSwitchingRun s₀ allowance lent₀)) × (lent ≡ memoryOf switchingStepper s₀ allowance lent₀)
 unfolding advancedSwitchingRun
-returned c = (λ i. record { stop = c .stop-is i; steps = c .steps-is i; records = c .count-is i; run = c .kept-is i }, c .memory-is)
+returned c = (λ i. record { stop = c .stop-is i; steps = c .steps-is i; records = c .count-is i; run = c .kept-is i }, c .left-is)

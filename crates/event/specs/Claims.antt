@@ -21,7 +21,7 @@ use Rattle.event.specs.declared.fault_run.FaultRun.{FaultRun}
 use Rattle.event.specs.declared.switching_run.SwitchingRun.{SwitchingRun}
 use Rattle.event.specs.declared.result.DcTransientResult.{DcTransientResult}
 use Rattle.event.specs.Records.{recordOf}
-use Rattle.event.specs.FaultRuns.{faultStepper, faultRunRefused, faultRunAfter, startedFaultRun, faultFigures, faultResults, faultVariables}
+use Rattle.event.specs.FaultRuns.{faultStepper, faultRunRefused, faultRunAfter, startedFaultRun, faultFigures, faultResults, figuresSoFar}
 use Rattle.event.specs.SwitchingRuns.{switchingStepper, switchingRunRefused, switchingRunAfter, startedSwitchingRun, switchingResults}
 
 -- A run of 000: the grid, what is kept after t steps, the state after a step, the figures of what is kept, and the results.
@@ -104,7 +104,7 @@ pub record RunClaims : Type 1 where
   pub switching : (g : DcSwitchingSimulator) (number : ℕ) (opens : Bool) → switchingRefusal g ≡ 0 → (cs : Calls (switchingRun g number opens))
       → Chain switchingStepper (startedSwitchingRun g number opens) cs → InPortions (switchingRun g number opens) cs
   -- "before the finish the figures are 000's variables after the last step made"
-  pub figures-before : (g : DcSwitchingSimulator) (f : DcFaultEvent) → faultRefusal g f ≡ 0 → (t : ℕ) → t < stepsOf g → faultFigures (faultRunAfter g f t) ≡ faultVariables (faultAfter g f t)
+  pub figures-before : (g : DcSwitchingSimulator) (f : DcFaultEvent) → faultRefusal g f ≡ 0 → (t : ℕ) → t < stepsOf g → faultFigures (faultRunAfter g f t) ≡ figuresSoFar (faultAfter g f t)
   -- as many records as recorded steps
   pub record-count : (r : Run) → length (statesAfter r (stepsOf (r .grid))) ≡ recordsOf (stepsOf (r .grid))
   -- a started run is what is kept after 0 steps; beside a refusal stands a run that every advance refuses

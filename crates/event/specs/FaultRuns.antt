@@ -132,8 +132,8 @@ faultResults g v =
     }
 
 -- "before the finish the figures are 000's variables after the last step made"
-abbrev pub faultVariables : FaultVariables → DcTransientResult
-faultVariables v =
+abbrev pub figuresSoFar : FaultVariables → DcTransientResult
+figuresSoFar v =
     record {
       «peak_fault_current_ka» = v .«peak_fault_ka»;
       «fault_clearing_time_ms» = v .«clearing_time_ms»;
@@ -145,4 +145,4 @@ faultVariables v =
 
 -- of any run; N is counted to one past the limit, as the code counts it
 unfoldable pub faultFigures : FaultRun → DcTransientResult
-faultFigures r = cond (eqb (r .«steps_made») (countedTo (stepsOf (r .grid)))) (faultResults (r .grid) (r .variables)) (faultVariables (r .variables))
+faultFigures r = cond (eqb (r .«steps_made») (countedTo (stepsOf (r .grid)))) (faultResults (r .grid) (r .variables)) (figuresSoFar (r .variables))

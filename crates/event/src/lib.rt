@@ -5,6 +5,8 @@ mod record;
 mod result;
 mod switching_run;
 
+pub use event_step::FaultVariables;
+pub use event_step::SwitchingVariables;
 pub use fault_run::AdvancedFaultRun;
 pub use fault_run::FaultRun;
 pub use fault_run::StartedFaultRun;

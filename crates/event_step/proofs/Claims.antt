@@ -1,10 +1,9 @@
 -- The claims of specs/Claims. Assumes nothing.
-use Prim.Native.Nat.{ℕ, _≤_, _<_, min}
+use Prim.Native.Nat.{ℕ, _≤_, min}
 use native.Mathlib.Omega.{arith}
 use mathlib.Core.Path.{_≡_, refl, ap}
-use mathlib.Core.Bool.{Bool, true, false, not, _&&_, _||_, cond}
+use mathlib.Core.Bool.{Bool, true, false, not, _&&_, cond}
 use lib.Ieee.{Float, nan, le}
-use Rattle.lists.specs.Tables.{padded}
 use Rattle.lists.proofs.Fills.{getD-padded}
 use Rattle.float64.specs.Constants.{nought, milli}
 use Rattle.float64.specs.Arithmetic.{_⊗_}

@@ -1,27 +1,15 @@
 -- Two settings that agree give the same body. Assumes nothing.
 use Prim.Native.Nat.{ℕ, _<_}
-use mathlib.Core.Path.{_≡_, refl, sym, ap, _∙_}
-use mathlib.Core.Bool.{Bool, not, cond}
-use mathlib.Core.List.{List}
-use borrow.Author.Tests.{ltb-true}
-use lib.Dec.{ltb}
-use lib.ListN.{length, getD}
+use mathlib.Core.Path.{_≡_, ap, _∙_}
+use mathlib.Core.Bool.{not}
 use lib.Ieee.{Float, nan, le}
-use Rattle.lists.specs.Tables.{tab, over}
-use Rattle.lists.specs.Scans.{some}
-use Rattle.lists.proofs.Counting.{by-test}
-use Rattle.lists.proofs.Fills.{tab-same}
+use Rattle.lists.proofs.Places.{over-same}
 use Rattle.lists.proofs.Scanning.{some-same}
 use Rattle.float64.specs.Arithmetic.{_⊗_, of}
 use Rattle.transient.specs.declared.state.DcTransientState.{DcTransientState}
 use Rattle.event_step.specs.declared.variables.FaultVariables.{FaultVariables}
 use Rattle.event_step.specs.Constants.{recoveredPart}
-use Rattle.event_step.specs.Fault.{Setting, recovering, body, timeAt, activeAt, whileFaulted, afterClearing, beforeInception}
-
--- only the first n are looked at
-over-below : {A : Type 0} (n : ℕ) (f g : ℕ → A) (z : A) (d : List A) → ((k : ℕ) → k < n → f k ≡ g k) → over n f z d ≡ over n g z d
-unfolding over
-over-below n f g z d h = tab-same (length d) _ _ (λ k l. by-test (ltb k n) (λ t. rw t (h k (ltb-true k n t))) (λ t. rw t))
+use Rattle.event_step.specs.Fault.{Setting, recovering, body, timeAt, whileFaulted, afterClearing, beforeInception}
 
 -- a setting with other rated voltages
 abbrev withRated : Setting → (ℕ → Float) → Setting
@@ -44,7 +32,7 @@ module _ (z : Setting) (r r′ : ℕ → Float) (same : (i : ℕ) → i < z .sta
   unfolding afterClearing
   cleared-same t v =
       rw (
-        over-below (z .stations) (λ i. recovering (r i) (of (v .state .y) i)) (λ i. recovering (r′ i) (of (v .state .y) i)) nan (v .state .y) (λ k l. ap (λ (x : Float). recovering x (of (v .state .y) k)) (same k l)),
+        over-same (z .stations) nan (λ i. recovering (r i) (of (v .state .y) i)) (λ i. recovering (r′ i) (of (v .state .y) i)) (v .state .y) (λ k l. ap (λ (x : Float). recovering x (of (v .state .y) k)) (same k l)),
         some-same (λ i. not (le (recoveredPart ⊗ r i) (of (v .state .y) i))) (λ i. not (le (recoveredPart ⊗ r′ i) (of (v .state .y) i))) (z .stations) (λ k l. ap (λ (x : Float). not (le (recoveredPart ⊗ x) (of (v .state .y) k))) (same k l)),
       )
 

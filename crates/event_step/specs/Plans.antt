@@ -14,7 +14,6 @@ use Rattle.timing.specs.Steps.{timeStepMs, durationMs}
 use Rattle.timing.specs.Breakers.{fastestOf}
 use Rattle.network.specs.declared.network.Network.{Network}
 use Rattle.network.specs.Network.{networkOf, drainOf, noDrain, stationCount, cableCount}
-use Rattle.transient.specs.declared.state.DcTransientState.{DcTransientState}
 use Rattle.transient.specs.Rk4.{rk4Step, networkWith}
 use Rattle.fault_circuit.specs.Circuit.{circuitOf}
 use Rattle.fault_circuit.specs.Current.{currentOf, decayedOf}

@@ -5,18 +5,19 @@ use mathlib.Core.Logic.{⊎-elim}
 use mathlib.Core.List.{List}
 use Prim.Native.Nat.{ℕ, _≤_, _<_}
 use native.Mathlib.Omega.{arith}
-use borrow.Author.Tests.{lt-ltb, le-ltb, eq-eqb, ne-eqb}
+use borrow.Author.Tests.{lt-ltb, le-ltb, ltb-true, eq-eqb, ne-eqb}
 use lib.Dec.{eqb, ltb}
 use lib.ListN.{length, getD, set, length-set}
 use lib.Seq.{getD-set-same, getD-set-other}
 use Rattle.lists.specs.Tables.{tab, over}
-use Rattle.lists.proofs.Counting.{lt-or-le, eq-or-ne}
+use Rattle.lists.proofs.Counting.{by-test, lt-or-le, eq-or-ne}
 use Rattle.lists.proofs.Fills.{is-tab, tab-same, getD-tab, length-tab}
 
 module _ {A : Type 0} (n : ℕ) (z : A) where
-  pub over-same : (f g : ℕ → A) (d : List A) → ((k : ℕ) → f k ≡ g k) → over n f z d ≡ over n g z d
+  -- only the first n are looked at
+  pub over-same : (f g : ℕ → A) (d : List A) → ((k : ℕ) → k < n → f k ≡ g k) → over n f z d ≡ over n g z d
   unfolding over
-  over-same f g d h = tab-same (length d) _ _ (λ k lk. rw (h k))
+  over-same f g d h = tab-same (length d) _ _ (λ k lk. by-test (ltb k n) (λ t. rw t (h k (ltb-true k n t))) (λ t. rw t))
 
   -- each element changed by its place, and again
   pub over-over : (f g : ℕ → A → A) (d : List A)
@@ -75,10 +76,10 @@ module _ {A : Type 0} (n : ℕ) (z : A) where
       twice-stored l ne =
           once-stored h b x l
           ∙ rw first (over-over (λ i y. cond (eqb b i) (h i y) y) (λ i y. cond (eqb a i) (g i y) y) d)
-          ∙ over-same _ (λ i. twice i (getD d i z)) d (λ i. apart ne i (getD d i z))
+          ∙ over-same _ (λ i. twice i (getD d i z)) d (λ i l. apart ne i (getD d i z))
 
       pub twice-joined : a ≡ b → x ≡ over n (λ i. twice i (getD d i z)) z d
-      twice-joined e = first ∙ over-same _ (λ i. twice i (getD d i z)) d (λ i. joined e i (getD d i z))
+      twice-joined e = first ∙ over-same _ (λ i. twice i (getD d i z)) d (λ i l. joined e i (getD d i z))
 
       pub twice-past : n ≤ b → x ≡ over n (λ i. twice i (getD d i z)) z d
       twice-past l =
@@ -86,5 +87,5 @@ module _ {A : Type 0} (n : ℕ) (z : A) where
           (λ e. twice-joined e)
           (λ ne. once-past h b x l
           ∙ rw first (over-over (λ i y. cond (eqb b i) (h i y) y) (λ i y. cond (eqb a i) (g i y) y) d)
-          ∙ over-same _ (λ i. twice i (getD d i z)) d (λ i. apart ne i (getD d i z)))
+          ∙ over-same _ (λ i. twice i (getD d i z)) d (λ i l. apart ne i (getD d i z)))
           (eq-or-ne a b)

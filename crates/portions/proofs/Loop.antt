@@ -15,6 +15,7 @@ use Rattle.lists.proofs.Scanning.{left, right}
 use Rattle.portions.specs.declared.Stop.{Stop}
 use Rattle.portions.specs.declared.Stop.the-variants.{Finished, Spent, Full, Refused}
 use Rattle.portions.specs.Stopping.{Stepper, Answer, joined, stopped, after, advance, answerOf, memoryOf, reasonOf}
+use Rattle.portions.specs.Calls.{Made}
 use Rattle.portions.proofs.Joined.{joined-append, stored-behind}
 
 -- no whole item is wanted, or there is space for one
@@ -87,16 +88,12 @@ module _ {A : Type 0} (m : Stepper A) where
       }
 
   -- what the contract of an advance says of its answer
-  pub record Came (s₀ : Kept) (allowance : ℕ) (lent₀ : List A) (steps out : ℕ) (stop : Stop) (s : Kept) (lent : List A) : Type 0 where
-    pub steps-is : steps ≡ answerOf m s₀ allowance lent₀ .steps
-    pub count-is : out ≡ length (answerOf m s₀ allowance lent₀ .items)
-    pub stop-is : stop ≡ answerOf m s₀ allowance lent₀ .stop
-    pub kept-is : s ≡ answerOf m s₀ allowance lent₀ .kept
-    pub memory-is : lent ≡ memoryOf m s₀ allowance lent₀
+  abbrev pub Came : (s₀ : Kept) (allowance : ℕ) (lent₀ : List A) (steps out : ℕ) (stop : Stop) (s : Kept) (lent : List A) → Type 0
+  Came s₀ allowance lent₀ steps out stop s lent = Made m s₀ (record { allowance = allowance; lent = lent₀; steps = steps; count = out; stop = stop; kept = s; left = lent })
 
   pub came-refused : (s₀ : Kept) (allowance : ℕ) (lent₀ : List A) → refused s₀ ≡ true → Came s₀ allowance lent₀ 0 0 Refused s₀ lent₀
   unfolding answerOf memoryOf
-  came-refused s₀ allowance lent₀ e = record { steps-is = rw e; count-is = rw e; stop-is = rw e; kept-is = rw e; memory-is = rw e }
+  came-refused s₀ allowance lent₀ e = record { steps-is = rw e; count-is = rw e; stop-is = rw e; kept-is = rw e; left-is = rw e }
 
   module _ {s₀ : Kept} {allowance : ℕ} {lent₀ : List A} {s : Kept} {lent : List A} {steps out : ℕ} (g : Going s₀ allowance lent₀ s lent steps out) where
     -- where the loop is left
@@ -113,7 +110,7 @@ module _ {A : Type 0} (m : Stepper A) where
             count-is = rw (answer, append-nil, g .past-count);
             stop-is = rw answer;
             kept-is = rw answer;
-            memory-is = rw (g .taken, answer, append-nil, g .past-count) (g .memory-is);
+            left-is = rw (g .taken, answer, append-nil, g .past-count) (g .memory-is);
           }
 
     pub came-finished : ended s ≡ true → Came s₀ allowance lent₀ steps out Finished s lent

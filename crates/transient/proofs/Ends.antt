@@ -21,4 +21,4 @@ module _ (n : ℕ) (d : Drain) (y : List Float) where
   less i s = s ⊖ drainCurrent d (of y i)
 
   pub drained-at : (e : List Float) → over n (λ i. twice n nan less less (d .from) (d .to) e i (of e i)) nan e ≡ over n (λ i. drained d y i (of e i)) nan e
-  drained-at e = over-same n nan _ _ e (λ i. either (eqb (d .from) i) (eqb (d .to) i) (less i (of e i)) (of e i))
+  drained-at e = over-same n nan _ _ e (λ i l. either (eqb (d .from) i) (eqb (d .to) i) (less i (of e i)) (of e i))

@@ -1,7 +1,6 @@
 -- `blank_state` meets its contract. Assumes nothing.
 use Rattle.lists.specs.Tables.{blank}
 use mathlib.Core.Path.{refl}
-use borrow.Author.Needs.{needs}
 use Rattle.event.proofs.blank.blank_state.Statement.{statement}
 use Rattle.event.proofs.blank.blank_state.Tie as tie
 

@@ -3,7 +3,7 @@ use Rattle.event.specs.FaultRuns.{startedFaultRun}
 use Rattle.event_step.specs.Fault.{faultAfter}
 use Rattle.rules.specs.Studies.{faultRefusal}
 use borrow.Author.Tests.{eq-eqb, ne-eqb}
-use mathlib.Core.Path.{_≡_, sym, _∙_}
+use mathlib.Core.Path.{sym, _∙_}
 use borrow.Author.Needs.{needs}
 use Rattle.event.proofs.fault_run.simulate_fault.Statement.{statement}
 use Rattle.event.proofs.fault_run.simulate_fault.Tie as tie

@@ -5,8 +5,8 @@ use Rattle.lists.specs.Tables.{tab}
 use lib.ListN.{length, length-set}
 use lib.Seq.{sets}
 use native.Mathlib.Omega.{arith}
-use Prim.Native.Nat.{_+_, _-_, _≤_}
-use mathlib.Core.Path.{_≡_, refl, ap, _∙_}
+use Prim.Native.Nat.{_-_, _≤_}
+use mathlib.Core.Path.{_≡_, refl}
 use Rattle.event.specs.Records.{closedNumber}
 use lib.ListN.{getD}
 use mathlib.Core.Bool.{false}

@@ -6,7 +6,7 @@ use lib.ListN.{length, length-set}
 use lib.Seq.{sets}
 use native.Mathlib.Omega.{arith}
 use Prim.Native.Nat.{_+_, _-_, _≤_}
-use mathlib.Core.Path.{_≡_, refl, ap, _∙_}
+use mathlib.Core.Path.{_≡_, refl}
 use Rattle.float64.specs.Arithmetic.{of}
 use borrow.Author.Needs.{needs}
 use Rattle.event.proofs.record.put_numbers.Statement.{statement}

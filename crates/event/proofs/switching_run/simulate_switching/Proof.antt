@@ -3,7 +3,7 @@ use Rattle.event.specs.SwitchingRuns.{startedSwitchingRun}
 use Rattle.event_step.specs.Switching.{switchingAfter}
 use Rattle.rules.specs.Studies.{switchingRefusal}
 use borrow.Author.Tests.{eq-eqb, ne-eqb}
-use mathlib.Core.Path.{_≡_, sym, _∙_}
+use mathlib.Core.Path.{sym, _∙_}
 use borrow.Author.Needs.{needs}
 use Rattle.event.proofs.switching_run.simulate_switching.Statement.{statement}
 use Rattle.event.proofs.switching_run.simulate_switching.Tie as tie

@@ -2,7 +2,7 @@
 use Rattle.event_step.specs.Plans.{networkLent}
 use Rattle.event_step.proofs.Body.{lasts, is-cleared, waits}
 use native.Mathlib.Omega.{arith}
-use mathlib.Core.Path.{_≡_, _∙_}
+use mathlib.Core.Path.{_∙_}
 use borrow.Author.Needs.{needs}
 use Rattle.event_step.proofs.fault.fault_step_lent.Statement.{statement}
 use Rattle.event_step.proofs.fault.fault_step_lent.Tie as tie

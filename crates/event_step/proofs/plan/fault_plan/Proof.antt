@@ -2,7 +2,7 @@
 use Rattle.lists.specs.Tables.{blank}
 use native.Mathlib.Omega.{arith}
 use Prim.Native.Nat.{_≤_}
-use mathlib.Core.Path.{_≡_, refl}
+use mathlib.Core.Path.{refl}
 use Rattle.event_step.specs.Plans.{planOf}
 use borrow.Author.Needs.{needs}
 use Rattle.event_step.proofs.plan.fault_plan.Statement.{statement}

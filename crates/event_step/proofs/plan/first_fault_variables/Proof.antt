@@ -3,7 +3,7 @@ use Rattle.lists.specs.Tables.{blank}
 use native.Mathlib.Omega.{arith}
 use Prim.Native.Nat.{_≤_}
 use mathlib.Core.Bool.{true}
-use mathlib.Core.Path.{_≡_, refl}
+use mathlib.Core.Path.{refl}
 use Rattle.event_step.specs.Fault.{beforeLoop}
 use Rattle.event_step.proofs.Breakers.{from-open}
 use borrow.Author.Needs.{needs}

@@ -1,5 +1,5 @@
 -- `set_breakers` meets its contract. Assumes nothing.
-use Rattle.lists.proofs.Fills.{upto, upto-none, upto-more, upto-over, getD-upto-out}
+use Rattle.lists.proofs.Fills.{upto, upto-none, upto-more, upto-over}
 use Rattle.lists.proofs.Counting.{at-end}
 use native.Mathlib.Omega.{arith}
 use Prim.Native.Nat.{_-_, _≤_}

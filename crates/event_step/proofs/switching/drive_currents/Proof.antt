@@ -1,5 +1,4 @@
 -- `drive_currents` meets its contract. Assumes nothing.
-use Rattle.event_step.specs.Fault.{rated}
 use Rattle.event_step.specs.Switching.{drivenCurrent, driven}
 use Rattle.grid.specs.declared.parts.DcCable.{DcCable}
 use Rattle.grid.specs.Simulator.{blankCable}

@@ -1,5 +1,4 @@
 -- `operated` meets its contract. Assumes nothing.
-use borrow.Author.Needs.{needs}
 use Rattle.event_step.proofs.switching.operated.Statement.{statement}
 use Rattle.event_step.proofs.switching.operated.Tie as tie
 

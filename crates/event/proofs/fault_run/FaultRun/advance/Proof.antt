@@ -9,7 +9,7 @@ use Rattle.rules.proofs.Sizes.{size-claims}
 use Rattle.portions.proofs.Loop.{came-refused}
 use native.Mathlib.Omega.{arith}
 use Prim.Native.Nat.{_-_}
-use mathlib.Core.Path.{_≡_, sym, ap, _∙_}
+use mathlib.Core.Path.{sym, _∙_}
 use borrow.Author.Needs.{needs}
 use Rattle.event.proofs.fault_run.FaultRun.advance.Statement.{statement}
 use Rattle.event.proofs.fault_run.FaultRun.advance.Tie as tie

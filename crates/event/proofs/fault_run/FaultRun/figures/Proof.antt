@@ -1,6 +1,6 @@
 -- `figures` of a fault run meets its contract. Assumes nothing.
 use Rattle.event.specs.declared.result.DcTransientResult.{DcTransientResult}
-use Rattle.event.specs.FaultRuns.{faultFigures, faultResults, faultVariables}
+use Rattle.event.specs.FaultRuns.{faultFigures, faultResults, figuresSoFar}
 use Rattle.event_step.specs.declared.variables.FaultVariables.{FaultVariables}
 use Rattle.grid.specs.declared.simulator.DcSwitchingSimulator.{DcSwitchingSimulator}
 use Rattle.timing.specs.Steps.{durationMs, stepsOf, countedTo}
@@ -8,7 +8,6 @@ use lib.Dec.{eqb}
 use Rattle.lists.proofs.Counting.{by-test}
 use mathlib.Core.Bool.{Bool, true, false, not, _&&_, cond}
 use mathlib.Core.Path.{_≡_, refl}
-use lib.Ieee.{Float}
 use borrow.Author.Needs.{needs}
 use Rattle.event.proofs.fault_run.FaultRun.figures.Statement.{statement}
 use Rattle.event.proofs.fault_run.FaultRun.figures.Tie as tie
@@ -24,7 +23,7 @@ figured : (g : DcSwitchingSimulator) (v : FaultVariables) (b : Bool)
       «max_di_dt» = v .«max_di_dt»;
       «fault_cleared» = v .«fault_cleared»;
     })
-    (cond b (faultResults g v) (faultVariables v))
+    (cond b (faultResults g v) (figuresSoFar v))
 figured g v true = by-test (v .«fault_cleared») (λ h. rw h) (λ h. rw h)
 figured g v false = refl
 

@@ -8,7 +8,7 @@ use Rattle.rules.proofs.Sizes.{size-claims}
 use Rattle.portions.proofs.Loop.{came-refused}
 use native.Mathlib.Omega.{arith}
 use Prim.Native.Nat.{_-_}
-use mathlib.Core.Path.{_≡_, sym, _∙_}
+use mathlib.Core.Path.{sym, _∙_}
 use borrow.Author.Needs.{needs}
 use Rattle.event.proofs.switching_run.SwitchingRun.advance.Statement.{statement}
 use Rattle.event.proofs.switching_run.SwitchingRun.advance.Tie as tie
