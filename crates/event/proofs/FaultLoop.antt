@@ -15,8 +15,9 @@ use Rattle.portions.proofs.Loop.{Came}
 use Rattle.event_step.specs.declared.variables.FaultVariables.{FaultVariables}
 use Rattle.event_step.specs.declared.variables.FaultScalars.{FaultScalars}
 use Rattle.event_step.specs.declared.plan.FaultPlan.{FaultPlan}
-use Rattle.event_step.specs.Fault.{faultBody}
-use Rattle.event_step.specs.Plans.{planOf, planStep, variablesOf, scalarsOf}
+use Rattle.event_step.specs.declared.plan.FaultConstants.{FaultConstants}
+use Rattle.event_step.specs.Fault.{body, faultBody}
+use Rattle.event_step.specs.Plans.{planOf, planStep, settingWith, networkLent, variablesOf, scalarsOf}
 use Rattle.event_step.proofs.Claims.{plan-claims}
 use Rattle.event.specs.declared.fault_run.FaultRun.{FaultRun}
 use Rattle.event.specs.declared.fault_run.AdvancedFaultRun.{AdvancedFaultRun}
@@ -38,6 +39,10 @@ module _ (g : DcSwitchingSimulator) (f : DcFaultEvent) where
 
   abbrev pub faultKind : Kind faultStepper g FaultVariables
   faultKind = record { run = runOf g f; body = faultBody g f; state = λ v. v .state; sizes = λ made v. refl; stage = at-stage; next-is = after-step }
+
+-- a step on lent arrays
+unfoldable pub lentStep : FaultConstants → (from to : List ℕ) → (r l c rated : List Float) → ℕ → FaultVariables → FaultVariables
+lentStep k from to r l c rated = body (settingWith k (networkLent k from to r l c) rated)
 
 -- a run that is not refused
 module _ (s : FaultRun) (h : faultRunRefused s ≡ false) where

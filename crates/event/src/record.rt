@@ -74,13 +74,15 @@ fn put_record(
 {
     let n = counts.stations;
     let m = counts.cables;
-    let b = counts.breakers;
+    let voltages = at + 2;
+    let station_currents = voltages + n;
+    let cable_currents = station_currents + n;
     records[at] = time_ms;
     records[at + 1] = fault_current_ka;
-    put_numbers(records, at + 2, y, 0, n);
-    put_numbers(records, at + 2 + n, station_currents_ka, 0, n);
-    put_numbers(records, at + 2 + n + n, y, n, m);
-    put_breakers(records, at + 2 + n + n + m, breaker_states, b);
+    put_numbers(records, voltages, y, 0, n);
+    put_numbers(records, station_currents, station_currents_ka, 0, n);
+    put_numbers(records, cable_currents, y, n, m);
+    put_breakers(records, cable_currents + m, breaker_states, counts.breakers);
 }
 
 // n numbers from the first on.

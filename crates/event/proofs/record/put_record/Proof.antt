@@ -28,6 +28,15 @@ after-2 c = ap length (c .put-numbers2 .ensures) ∙ simp length-sets (after-1 (
 after-3 : (c : tie.After-put-numbers3) → length (c .put-numbers3 .last .0) ≡ length (c .before .before .before .before .before .before .before .before .before .before .before .before .before .before .args .records .now)
 after-3 c = ap length (c .put-numbers3 .ensures) ∙ simp length-sets (after-2 (c .before .before .before .before .before))
 
+add-voltages : tie.Need-add-voltages
+add-voltages c = search needs
+
+add-station-currents : tie.Need-add-station-currents
+add-station-currents c = search needs
+
+add-cable-currents : tie.Need-add-cable-currents
+add-cable-currents c = search needs
+
 mul-records : tie.Need-mul-records
 mul-records c = search needs
 
@@ -43,44 +52,17 @@ mul-records-2 c = search needs
 slice-write-records-2 : tie.Need-slice-write-records-2
 slice-write-records-2 c = simp length-set (omega arith)
 
-add-put-numbers : tie.Need-add-put-numbers
-add-put-numbers c = search needs
-
 put-numbers-requires : tie.Need-put-numbers-requires
 put-numbers-requires c κs = (simp length-set (omega (arith, c .before .before .before .pre .1)), search needs)
 
-add-put-numbers-2 : tie.Need-add-put-numbers-2
-add-put-numbers-2 c = search needs
-
-add-put-numbers-3 : tie.Need-add-put-numbers-3
-add-put-numbers-3 c = search needs
-
 put-numbers-requires-2 : tie.Need-put-numbers-requires-2
 put-numbers-requires-2 c κs = (omega (arith, after-1 (c .before .before .before .before), c .before .before .before .before .before .before .before .before .pre .1), search needs)
-
-add-put-numbers-4 : tie.Need-add-put-numbers-4
-add-put-numbers-4 c = search needs
-
-add-put-numbers-5 : tie.Need-add-put-numbers-5
-add-put-numbers-5 c = search needs
-
-add-put-numbers-6 : tie.Need-add-put-numbers-6
-add-put-numbers-6 c = search needs
 
 put-numbers-requires-3 : tie.Need-put-numbers-requires-3
 put-numbers-requires-3 c κs = (omega (arith, after-2 (c .before .before .before .before), c .before .before .before .before .before .before .before .before .before .before .before .before .before .pre .1), search needs)
 
 add-put-breakers : tie.Need-add-put-breakers
 add-put-breakers c = search needs
-
-add-put-breakers-2 : tie.Need-add-put-breakers-2
-add-put-breakers-2 c = search needs
-
-add-put-breakers-3 : tie.Need-add-put-breakers-3
-add-put-breakers-3 c = search needs
-
-add-put-breakers-4 : tie.Need-add-put-breakers-4
-add-put-breakers-4 c = search needs
 
 put-breakers-requires : tie.Need-put-breakers-requires
 put-breakers-requires c κs = (omega (arith, after-3 (c .before .before .before), c .before .before .before .before .before .before .before .before .before .before .before .before .before .before .before .before .before .pre .1), omega (arith, c .before .before .before .before .before .before .before .before .before .before .before .before .before .before .before .before .before .pre .0 .breakers))
@@ -101,24 +83,18 @@ pub put-record-spec : {M : Type 1} → statement M
 put-record-spec =
     tie.close
     (tie.spec
+    add-voltages
+    add-station-currents
+    add-cable-currents
     mul-records
     slice-write-records
     add-records
     mul-records-2
     slice-write-records-2
-    add-put-numbers
     put-numbers-requires
-    add-put-numbers-2
-    add-put-numbers-3
     put-numbers-requires-2
-    add-put-numbers-4
-    add-put-numbers-5
-    add-put-numbers-6
     put-numbers-requires-3
     add-put-breakers
-    add-put-breakers-2
-    add-put-breakers-3
-    add-put-breakers-4
     put-breakers-requires
     same-length
     returns)

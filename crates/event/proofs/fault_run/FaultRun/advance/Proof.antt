@@ -1,9 +1,8 @@
 -- `advance` of a fault run meets its contract. Assumes nothing.
 use Rattle.event.specs.FaultRuns.{faultStepper}
 use Rattle.event.proofs.Turns.{Inside, inside, position, out-ok, leaves, more, more-steps, fits, goes}
-use Rattle.event.proofs.FaultLoop.{faultKind, accepted, not-past, by-plan, returned, not-refused, returns-run}
-use Rattle.event_step.specs.Fault.{body}
-use Rattle.event_step.specs.Plans.{planStep, settingWith, networkLent, variablesOf}
+use Rattle.event.proofs.FaultLoop.{faultKind, lentStep, accepted, not-past, by-plan, returned, not-refused, returns-run}
+use Rattle.event_step.specs.Plans.{planStep, variablesOf}
 use Rattle.rules.proofs.Claims.{accepted-claims}
 use Rattle.rules.proofs.Sizes.{size-claims}
 use Rattle.portions.proofs.Loop.{came-refused}
@@ -16,7 +15,7 @@ use Rattle.event.proofs.fault_run.FaultRun.advance.Tie as tie
 
 abbrev Inv-loop : tie.InvT-loop
 Inv-loop allowance records₀ g fault n size space counts constants from to r l c rated y₀ currents₀ breakers₀ s₀ made₀ steps₀ out₀ records y currents breakers s made steps out =
-    Inside (faultKind g fault) allowance records₀ n size space counts (body (settingWith constants (networkLent constants from to r l c) rated)) (variablesOf s₀ y₀ currents₀ breakers₀) made₀ records (variablesOf s y currents breakers) made steps out
+    Inside (faultKind g fault) allowance records₀ n size space counts (lentStep constants from to r l c rated) (variablesOf s₀ y₀ currents₀ breakers₀) made₀ records (variablesOf s y currents breakers) made steps out
 
 abbrev μ-loop : tie.MeasureT-loop
 μ-loop allowance records₀ g fault n size space counts constants from to r l c rated y₀ currents₀ breakers₀ s₀ made₀ steps₀ out₀ records y currents breakers s made steps out = allowance - steps
@@ -46,7 +45,7 @@ scalars-of-requires : tie.Need-scalars-of-requires Inv-loop μ-loop
 scalars-of-requires c κs = search needs
 
 loop-holds : tie.Need-loop-holds Inv-loop μ-loop
-unfolding planStep
+unfolding planStep lentStep
 loop-holds c =
     let p = c .before .before .before .before .before .before .before .before .before .before .before .before .before in
     let q = p .before .before .before .before .before .before .before in
@@ -85,6 +84,7 @@ put-if-recorded-requires : tie.Need-put-if-recorded-requires Inv-loop μ-loop
 put-if-recorded-requires c κs = (c .before .before .before .before .before .before .before .before .before .before .before .before .before .before .before .before .loop .inv .fixed .counted, fits _ (c .before .before .before .before .before .before .before .before .before .before .before .before .before .before .before .before .loop .inv) (c .before .before .before .before .before .before .before .before .before .before .before .before .before .before .before .is-recorded .result) (c .before .before .before .before .before .before .before .before .before .before .before .before .before .before .before .is-recorded .ensures) (c .before .before .before .before .before .before .before .before .before .before .before .before .before .before .if2 .left))
 
 add-out : tie.Need-add-out Inv-loop μ-loop
+unfolding lentStep
 add-out c =
     let l = c .before .before .before .before .before .before .before .before .before .before .before .before .before .before .before .before .before .before .before in
     let x = goes _ (l .loop .inv) (c .before .before .before .before .before .before .before .before .before .before .before .before .before .before .before .before .before .before .is-recorded .result) (c .before .before .before .before .before .before .before .before .before .before .before .before .before .before .before .before .before .before .is-recorded .ensures) (c .before .before .before .before .before .before .before .before .before .before .before .before .before .before .before .before .before .if2 .left) _ (c .before .before .before .before .before .before .before .fault-step-lent .ensures) _ (c .before .before .put-if-recorded .ensures .0) _ (c .before .before .put-if-recorded .ensures .1) in
@@ -100,6 +100,7 @@ loop-less : tie.Need-loop-less Inv-loop μ-loop
 loop-less c = let l = c .before .before .before .before .before .before .before .before .before .before .before .before .before .before .before .before .before .before .before in omega (arith, more _ (l .loop .inv) (c .before .before .before .before .before .before .before .before .before .before .before .before .before .before .before .before .before .before .is-recorded .result) (c .before .before .before .before .before .before .before .before .before .before .before .before .before .before .before .before .before .before .is-recorded .ensures) (c .before .before .before .before .before .before .before .before .before .before .before .before .before .before .before .before .before .if2 .left))
 
 loop-again : tie.Need-loop-again Inv-loop μ-loop
+unfolding lentStep
 loop-again c =
     let l = c .before .before .before .before .before .before .before .before .before .before .before .before .before .before .before .before .before .before .before in
     let p = c .before .before .put-if-recorded .ensures in
