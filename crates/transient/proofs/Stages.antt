@@ -12,12 +12,13 @@ use lib.Ieee.{Float, nan}
 use Rattle.lists.specs.Tables.{blank, over, padded}
 use Rattle.lists.proofs.Counting.{lt-or-le}
 use Rattle.lists.proofs.Fills.{over-each, over-longer, over-within, blank-padded, padded-same, getD-padded}
-use Rattle.float64.specs.Constants.{nought}
-use Rattle.float64.specs.Arithmetic.{_⊘_, of}
+use Rattle.float64.specs.Constants.{nought, half}
+use Rattle.float64.specs.Arithmetic.{_⊗_, _⊘_, of}
 use Rattle.float64.specs.Choice.{maxOf}
+use Rattle.network.specs.Constants.{six}
 use Rattle.network.specs.declared.network.Drain.{Drain}
 use Rattle.transient.specs.Derivatives.{passed, net, drained, cableRate, derivative}
-use Rattle.transient.specs.Rk4.{blended, rk4, raised, newState}
+use Rattle.transient.specs.Rk4.{ahead, blended, rk4, raised, newState}
 
 -- what stands after the first n
 pub after : (f g : ℕ → Float) (n k : ℕ) → g k ≡ cond (ltb (n + k) n) (f (n + k)) (g (n + k - n))
@@ -54,6 +55,17 @@ module _ (from to : ℕ → ℕ) (n : ℕ) (y : List Float) where
 
       pub rates-joined : over (n + m) (λ i. cond (ltb i n) (of voltageRates i) (cableRate from to r l n y (i - n))) nan voltageRates ≡ padded 96 (n + m) (derivative from to r l c d n m y) nought
       rates-joined = over-longer 96 n (n + m) (λ i. of x i ⊘ c i) _ nought nan (omega arith) ∙ padded-same 96 (n + m) _ (derivative from to r l c d n m y) nought at-rate
+
+-- the four stages and their sum
+pub rk4-staged : (size : ℕ) (f : List Float → List Float) (dt : Float) (y : List Float) {k1 k2 k3 k4 x : List Float}
+    → k1 ≡ f y
+    → k2 ≡ f (ahead size y (half ⊗ dt) k1)
+    → k3 ≡ f (ahead size y (half ⊗ dt) k2)
+    → k4 ≡ f (ahead size y dt k3)
+    → x ≡ blended size y (dt ⊘ six) k1 k2 k3 k4
+    → x ≡ rk4 size f dt y
+unfolding rk4
+rk4-staged size f dt y e1 e2 e3 e4 e = e ∙ rw (e4, e3, e2, e1)
 
 -- the step's numbers with their voltages raised
 pub rk4-raised : (n m : ℕ) (f : List Float → List Float) (dt : Float) (y : List Float) → let x = rk4 (n + m) f dt y in over n (λ i. maxOf (of x i) nought) nan x ≡ newState n m f dt y

@@ -13,7 +13,6 @@ use lib.Dec.{ltb}
 use native.Mathlib.Omega.{arith}
 use mathlib.Core.Bool.{cond}
 use mathlib.Core.Path.{_≡_, _∙_}
-use borrow.Author.Needs.{needs}
 use Rattle.transient.proofs.derivatives.cable_rates.Statement.{statement}
 use Rattle.transient.proofs.derivatives.cable_rates.Tie as tie
 
@@ -30,73 +29,73 @@ loop-holds c =
     (omega arith, upto-kept (a .n + 0) f nan (a .dy .now) (λ i l. let h : i < a .n = omega arith in rw (lt-ltb i (a .n) h)))
 
 mul-cut-end : tie.Need-mul-cut-end Inv-loop μ-loop
-mul-cut-end c = search needs
+mul-cut-end c = omega arith
 
 element-copy-out-cut-end : tie.Need-element-copy-out-cut-end Inv-loop μ-loop
-element-copy-out-cut-end c = search needs
+element-copy-out-cut-end c = omega arith
 
 cut-end-requires : tie.Need-cut-end-requires Inv-loop μ-loop
-cut-end-requires c κs = search needs
+cut-end-requires c κs = tt
 
 mul-dy : tie.Need-mul-dy Inv-loop μ-loop
-mul-dy c = search needs
+mul-dy c = omega arith
 
 element-copy-out-dy : tie.Need-element-copy-out-dy Inv-loop μ-loop
-element-copy-out-dy c = search needs
+element-copy-out-dy c = omega arith
 
 mul-cut-end-2 : tie.Need-mul-cut-end-2 Inv-loop μ-loop
-mul-cut-end-2 c = search needs
+mul-cut-end-2 c = mul-cut-end (c .before .before .before)
 
 element-copy-out-cut-end-2 : tie.Need-element-copy-out-cut-end-2 Inv-loop μ-loop
-element-copy-out-cut-end-2 c = search needs
+element-copy-out-cut-end-2 c = element-copy-out-cut-end (c .before .before .before)
 
 cut-end-requires-2 : tie.Need-cut-end-requires-2 Inv-loop μ-loop
-cut-end-requires-2 c κs = search needs
+cut-end-requires-2 c κs = tt
 
 mul-t28 : tie.Need-mul-t28 Inv-loop μ-loop
-mul-t28 c = search needs
+mul-t28 c = omega arith
 
 element-copy-out-t31 : tie.Need-element-copy-out-t31 Inv-loop μ-loop
-element-copy-out-t31 c = search needs
+element-copy-out-t31 c = omega arith
 
 add-t32 : tie.Need-add-t32 Inv-loop μ-loop
-add-t32 c = search needs
+add-t32 c = omega arith
 
 mul-t33 : tie.Need-mul-t33 Inv-loop μ-loop
-mul-t33 c = search needs
+mul-t33 c = omega arith
 
 element-copy-out-t36 : tie.Need-element-copy-out-t36 Inv-loop μ-loop
-element-copy-out-t36 c = search needs
+element-copy-out-t36 c = omega arith
 
 mul-t37 : tie.Need-mul-t37 Inv-loop μ-loop
-mul-t37 c = search needs
+mul-t37 c = mul-cut-end-2 (c .before .before .before .before)
 
 element-copy-out-t40 : tie.Need-element-copy-out-t40 Inv-loop μ-loop
-element-copy-out-t40 c = search needs
+element-copy-out-t40 c = element-copy-out-cut-end-2 (c .before .before .before .before)
 
 mul-t41 : tie.Need-mul-t41 Inv-loop μ-loop
-mul-t41 c = search needs
+mul-t41 c = mul-t37 (c .before)
 
 element-copy-out-t44 : tie.Need-element-copy-out-t44 Inv-loop μ-loop
-element-copy-out-t44 c = search needs
+element-copy-out-t44 c = element-copy-out-t40 (c .before)
 
 cable-rate-requires : tie.Need-cable-rate-requires Inv-loop μ-loop
-cable-rate-requires c κs = search needs
+cable-rate-requires c κs = tt
 
 add-dy : tie.Need-add-dy Inv-loop μ-loop
-add-dy c = search needs
+add-dy c = add-t32 (c .before .before .before .before)
 
 mul-dy-2 : tie.Need-mul-dy-2 Inv-loop μ-loop
-mul-dy-2 c = search needs
+mul-dy-2 c = mul-t33 (c .before .before .before .before)
 
 element-write-dy : tie.Need-element-write-dy Inv-loop μ-loop
-element-write-dy c = search needs
+element-write-dy c = element-copy-out-t36 (c .before .before .before .before)
 
 add-k : tie.Need-add-k Inv-loop μ-loop
-add-k c = search needs
+add-k c = omega arith
 
 loop-less : tie.Need-loop-less Inv-loop μ-loop
-loop-less c = search needs
+loop-less c = omega arith
 
 loop-again : tie.Need-loop-again Inv-loop μ-loop
 loop-again c =

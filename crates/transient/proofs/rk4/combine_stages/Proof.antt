@@ -1,8 +1,8 @@
 -- `combine_stages` meets its contract. Assumes nothing.
-use Rattle.transient.specs.Rk4.{rk4}
 use Rattle.lists.specs.Tables.{blank}
-use mathlib.Core.Path.{refl, _∙_}
+use mathlib.Core.Path.{refl}
 use borrow.Author.Needs.{needs}
+use Rattle.transient.proofs.Stages.{rk4-staged}
 use Rattle.transient.proofs.rk4.combine_stages.Statement.{statement}
 use Rattle.transient.proofs.rk4.combine_stages.Tie as tie
 
@@ -37,13 +37,12 @@ blend-requires : tie.Need-blend-requires
 blend-requires c κs = search needs
 
 returns : tie.Need-returns
-unfolding rk4
 returns c =
     let k4 = c .before .before .before .before .before .before in
     let k3 = k4 .before .before .before in
     let k2 = k3 .before .before .before in
     let k1 = k2 .before .before .before in
-    c .blend .ensures ∙ rw (k4 .slopes-ahead3 .ensures, k3 .slopes-ahead2 .ensures, k2 .slopes-ahead .ensures, k1 .state-derivatives .ensures)
+    rk4-staged _ _ _ _ (k1 .state-derivatives .ensures) (k2 .slopes-ahead .ensures) (k3 .slopes-ahead2 .ensures) (k4 .slopes-ahead3 .ensures) (c .blend .ensures)
 
 pub combine-stages-spec : {M : Type 1} → statement M
 combine-stages-spec =
