@@ -11,10 +11,8 @@ use crate::record::record_counts;
 use crate::result::DcTransientResult;
 use event_step::FaultVariables;
 use event_step::fault_plan;
-use event_step::fault_step_lent;
+use event_step::fault_step;
 use event_step::first_fault_variables;
-use event_step::scalars_of;
-use event_step::variables_of;
 use grid::DcFaultEvent;
 use grid::DcFaultType;
 use grid::DcSwitchingSimulator;
@@ -124,25 +122,12 @@ impl FaultRun {
         }
         let g = self.grid;
         let fault = self.fault;
-        let variables = self.variables;
         let n = total_steps(g);
         let size = record_length(g);
         let space = records.len() / size;
         let counts = record_counts(g);
         let plan = fault_plan(g, fault);
-        let constants = plan.constants;
-        let network = plan.network;
-        let from = network.from;
-        let to = network.to;
-        let r = network.resistance_ohm;
-        let l = network.inductance_h;
-        let c = network.capacitance_f;
-        let rated = plan.rated_kv;
-        let state = variables.state;
-        let mut y = state.y;
-        let mut currents = state.station_currents_ka;
-        let mut breakers = state.breaker_states;
-        let mut s = scalars_of(variables);
+        let mut v = self.variables;
         let mut made = self.steps_made;
         let mut steps: u64 = 0;
         let mut out: usize = 0;
@@ -160,35 +145,14 @@ impl FaultRun {
                         grid: g,
                         fault,
                         steps_made: made,
-                        variables: variables_of(s, y, currents, breakers),
+                        variables: v,
                     },
                 };
             }
-            s = fault_step_lent(
-                &mut y,
-                &mut currents,
-                &mut breakers,
-                s,
-                made,
-                &from,
-                &to,
-                &r,
-                &l,
-                &c,
-                &rated,
-                constants,
-            );
-            out += put_if_recorded(
-                recorded,
-                records,
-                size * out,
-                s.time_ms,
-                s.fault_current_ka,
-                &y,
-                &currents,
-                &breakers,
-                counts,
-            );
+            let next = fault_step(plan, made, v);
+            v = next;
+            let state = next.state;
+            out += put_if_recorded(recorded, records, size * out, state, counts);
             made += 1;
             steps += 1;
         }

@@ -10,6 +10,7 @@ ghost use Rattle.float64.specs.Arithmetic.{of};
 ghost use Rattle.event.specs.Records.{closedNumber, Counted, countsOf, numbersIn, recordBy};
 use grid::DcSwitchingSimulator;
 use grid::present;
+use transient::DcTransientState;
 
 // How many of each a record has.
 pub struct RecordCounts {
@@ -33,56 +34,37 @@ pub fn put_if_recorded(
     recorded: bool,
     records: &mut [f64],
     at: usize,
-    time_ms: f64,
-    fault_current_ka: f64,
-    y: &[f64; 96],
-    station_currents_ka: &[f64; 32],
-    breaker_states: &[bool; 32],
+    state: DcTransientState,
     counts: RecordCounts,
 ) -> usize
     requires { ⌜ Counted counts × (recorded ≡ true → at + numbersIn counts ≤ length (now records)) ⌝ }
-    ensures { λ r. ⌜ (r ≡ cond recorded 1 0) × (now (records .exit) ≡ sets (now (records .entry)) at (cond recorded (recordBy counts «time_ms» «fault_current_ka» (now (y .entry)) (now («station_currents_ka» .entry)) (now («breaker_states» .entry))) [])) ⌝ }
+    ensures { λ r. ⌜ (r ≡ cond recorded 1 0) × (now (records .exit) ≡ sets (now (records .entry)) at (cond recorded (recordBy counts state) [])) ⌝ }
 {
     if recorded {
-        put_record(
-            records,
-            at,
-            time_ms,
-            fault_current_ka,
-            y,
-            station_currents_ka,
-            breaker_states,
-            counts,
-        );
+        put_record(records, at, state, counts);
         return 1;
     }
     0
 }
 
-fn put_record(
-    records: &mut [f64],
-    at: usize,
-    time_ms: f64,
-    fault_current_ka: f64,
-    y: &[f64; 96],
-    station_currents_ka: &[f64; 32],
-    breaker_states: &[bool; 32],
-    counts: RecordCounts,
-)
+fn put_record(records: &mut [f64], at: usize, state: DcTransientState, counts: RecordCounts)
     requires { ⌜ Counted counts × (at + numbersIn counts ≤ length (now records)) ⌝ }
-    ensures { λ _. ⌜ now (records .exit) ≡ sets (now (records .entry)) at (recordBy counts «time_ms» «fault_current_ka» (now (y .entry)) (now («station_currents_ka» .entry)) (now («breaker_states» .entry))) ⌝ }
+    ensures { λ _. ⌜ now (records .exit) ≡ sets (now (records .entry)) at (recordBy counts state) ⌝ }
 {
+    let y = state.y;
+    let currents = state.station_currents_ka;
+    let breakers = state.breaker_states;
     let n = counts.stations;
     let m = counts.cables;
     let voltages = at + 2;
     let station_currents = voltages + n;
     let cable_currents = station_currents + n;
-    records[at] = time_ms;
-    records[at + 1] = fault_current_ka;
-    put_numbers(records, voltages, y, 0, n);
-    put_numbers(records, station_currents, station_currents_ka, 0, n);
-    put_numbers(records, cable_currents, y, n, m);
-    put_breakers(records, cable_currents + m, breaker_states, counts.breakers);
+    records[at] = state.time_ms;
+    records[at + 1] = state.fault_current_ka;
+    put_numbers(records, voltages, &y, 0, n);
+    put_numbers(records, station_currents, &currents, 0, n);
+    put_numbers(records, cable_currents, &y, n, m);
+    put_breakers(records, cable_currents + m, &breakers, counts.breakers);
 }
 
 // n numbers from the first on.

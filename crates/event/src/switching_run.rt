@@ -141,20 +141,7 @@ impl SwitchingRun {
             let next = switching_step(plan, made, v);
             v = next;
             let state = next.state;
-            let y = state.y;
-            let currents = state.station_currents_ka;
-            let breakers = state.breaker_states;
-            out += put_if_recorded(
-                recorded,
-                records,
-                size * out,
-                state.time_ms,
-                state.fault_current_ka,
-                &y,
-                &currents,
-                &breakers,
-                counts,
-            );
+            out += put_if_recorded(recorded, records, size * out, state, counts);
             made += 1;
             steps += 1;
         }

@@ -1,179 +1,93 @@
 // The body of the loop in 000's simulate_fault.
 ghost use mathlib.Core.Path.{_≡_};
-ghost use mathlib.Core.Bool.{false, cond};
+ghost use mathlib.Core.Bool.{false, _||_, cond};
+ghost use lib.Ieee.{le};
 ghost use Rattle.lists.specs.Tables.{blank};
-ghost use Rattle.event_step.specs.Fault.{diDt, dissipated, body};
-ghost use Rattle.event_step.specs.Plans.{planStep, settingWith, networkLent, variablesOf, scalarsOf, lastingScalars, clearedScalars};
+ghost use Rattle.event_step.specs.Fault.{diDt, dissipated, whileFaulted, afterClearing, beforeInception};
+ghost use Rattle.event_step.specs.Plans.{planStep, settingWith};
 use crate::plan::FaultConstants;
 use crate::plan::FaultPlan;
 use crate::recovery::all_recovered;
 use crate::recovery::recover_voltages;
-use crate::variables::FaultScalars;
 use crate::variables::FaultVariables;
 use fault_circuit::decayed_current_ka;
 use fault_circuit::fault_current_ka;
 use float64::abs;
 use float64::max;
 use grid::present;
+use network::Network;
 use std::num::nearest_u64_to_f64;
 use transient::DcTransientState;
-use transient::rk4_step_lent;
+use transient::rk4_step;
 
-// One step, numbered from 0, by value.
+// One step, numbered from 0. Its phase is tested first: a step before inception changes no array.
 pub fn fault_step(plan: FaultPlan, step: u64, v: FaultVariables) -> FaultVariables
     ensures { λ r. ⌜ r ≡ planStep plan step v ⌝ }
 {
-    let constants = plan.constants;
-    let network = plan.network;
-    let from = network.from;
-    let to = network.to;
-    let r = network.resistance_ohm;
-    let l = network.inductance_h;
-    let c = network.capacitance_f;
-    let rated = plan.rated_kv;
-    let state = v.state;
-    let mut y = state.y;
-    let mut currents = state.station_currents_ka;
-    let mut breakers = state.breaker_states;
-    let s = scalars_of(v);
-    let next = fault_step_lent(
-        &mut y,
-        &mut currents,
-        &mut breakers,
-        s,
-        step,
-        &from,
-        &to,
-        &r,
-        &l,
-        &c,
-        &rated,
-        constants,
-    );
-    variables_of(next, y, currents, breakers)
+    let k = plan.constants;
+    let circuit = k.circuit;
+    let t_ms = nearest_u64_to_f64(step) * k.dt_ms;
+    let active = v.fault_active | (circuit.inception_time_ms <= t_ms);
+    if v.fault_cleared {
+        let rated = plan.rated_kv;
+        return after_clearing(k, rated, v, t_ms, active);
+    }
+    if active {
+        let network = plan.network;
+        return while_faulted(k, network, v, t_ms);
+    }
+    before_inception(v, t_ms)
 }
 
-pub fn scalars_of(v: FaultVariables) -> FaultScalars
-    ensures { λ r. ⌜ r ≡ scalarsOf v ⌝ }
-{
-    let state = v.state;
-    FaultScalars {
-        time_ms: state.time_ms,
-        fault_current_ka: state.fault_current_ka,
-        peak_fault_ka: v.peak_fault_ka,
-        max_di_dt: v.max_di_dt,
-        energy_mj: v.energy_mj,
-        fault_cleared: v.fault_cleared,
-        clearing_time_ms: v.clearing_time_ms,
-        voltage_recovery_time_ms: v.voltage_recovery_time_ms,
-        prev_fault_current_ka: v.prev_fault_current_ka,
-        fault_active: v.fault_active,
+// The fault is not active yet: only the time goes on.
+fn before_inception(v: FaultVariables, t_ms: f64) -> FaultVariables {
+    let s = v.state;
+    let state = DcTransientState { time_ms: t_ms, ..s };
+    FaultVariables {
+        state,
+        fault_active: false,
+        ..v
     }
 }
 
-pub fn variables_of(
-    s: FaultScalars,
-    y: [f64; 96],
-    station_currents_ka: [f64; 32],
-    breaker_states: [bool; 32],
-) -> FaultVariables
-    ensures { λ r. ⌜ r ≡ variablesOf s y «station_currents_ka» «breaker_states» ⌝ }
-{
+// The fault is active and not cleared: an RK4 step is made.
+fn while_faulted(
+    k: FaultConstants,
+    network: Network,
+    v: FaultVariables,
+    t_ms: f64,
+) -> FaultVariables {
+    let circuit = k.circuit;
+    let before = v.state;
+    let after = rk4_step(network, k.drain, before, k.dt_ms * 0.001);
+    let i_fault_ka = fault_current_ka(circuit, t_ms);
+    let clears = k.breaker_clear_ms <= t_ms - circuit.inception_time_ms;
+    let breakers = before.breaker_states;
+    let y = after.y;
+    let currents = after.station_currents_ka;
     let state = DcTransientState {
-        time_ms: s.time_ms,
+        time_ms: t_ms,
         y,
-        station_currents_ka,
-        fault_current_ka: s.fault_current_ka,
-        breaker_states,
+        station_currents_ka: currents,
+        fault_current_ka: i_fault_ka,
+        breaker_states: opened_if(clears, breakers),
     };
     FaultVariables {
         state,
-        peak_fault_ka: s.peak_fault_ka,
-        max_di_dt: s.max_di_dt,
-        energy_mj: s.energy_mj,
-        fault_cleared: s.fault_cleared,
-        clearing_time_ms: s.clearing_time_ms,
-        voltage_recovery_time_ms: s.voltage_recovery_time_ms,
-        prev_fault_current_ka: s.prev_fault_current_ka,
-        fault_active: s.fault_active,
-    }
-}
-
-// The same step for a loop over steps, on lent arrays.
-pub fn fault_step_lent(
-    y: &mut [f64; 96],
-    currents: &mut [f64; 32],
-    breakers: &mut [bool; 32],
-    s: FaultScalars,
-    step: u64,
-    from: &[usize; 64],
-    to: &[usize; 64],
-    r: &[f64; 64],
-    l: &[f64; 64],
-    c: &[f64; 32],
-    rated: &[f64; 96],
-    k: FaultConstants,
-) -> FaultScalars
-    ensures { λ n. ⌜ variablesOf n (now (y .exit)) (now (currents .exit)) (now (breakers .exit)) ≡ body (settingWith k (networkLent k (now (from .entry)) (now (to .entry)) (now (r .entry)) (now (l .entry)) (now (c .entry))) (now (rated .entry))) step (variablesOf s (now (y .entry)) (now (currents .entry)) (now (breakers .entry))) ⌝ }
-{
-    let t_ms = nearest_u64_to_f64(step) * k.dt_ms;
-    let circuit = k.circuit;
-    let active = s.fault_active | (circuit.inception_time_ms <= t_ms);
-    let lasts = active & !s.fault_cleared;
-    if lasts {
-        rk4_step_lent(
-            y,
-            currents,
-            from,
-            to,
-            r,
-            l,
-            c,
-            k.drain,
-            k.n_stations,
-            k.n_cables,
-            k.dt_ms * 0.001,
-        );
-        let clears = k.breaker_clear_ms <= t_ms - circuit.inception_time_ms;
-        open_breakers(breakers, clears);
-        return lasting(s, k, t_ms, clears);
-    }
-    if s.fault_cleared {
-        let n = present(k.n_stations, 32);
-        let recovered = all_recovered(y, rated, n);
-        recover_voltages(y, rated, n);
-        return cleared(s, k, t_ms, active, recovered);
-    }
-    FaultScalars {
-        time_ms: t_ms,
-        fault_active: active,
-        ..s
-    }
-}
-
-// While the fault lasts.
-fn lasting(s: FaultScalars, k: FaultConstants, t_ms: f64, clears: bool) -> FaultScalars
-    ensures { λ r. ⌜ r ≡ lastingScalars s k «t_ms» clears ⌝ }
-{
-    let circuit = k.circuit;
-    let i_fault_ka = fault_current_ka(circuit, t_ms);
-    FaultScalars {
-        time_ms: t_ms,
-        fault_current_ka: i_fault_ka,
-        peak_fault_ka: max(s.peak_fault_ka, i_fault_ka),
+        peak_fault_ka: max(v.peak_fault_ka, i_fault_ka),
         max_di_dt: max(
-            s.max_di_dt,
-            di_dt(i_fault_ka, s.prev_fault_current_ka, k.dt_ms),
+            v.max_di_dt,
+            di_dt(i_fault_ka, v.prev_fault_current_ka, k.dt_ms),
         ),
-        energy_mj: s.energy_mj
+        energy_mj: v.energy_mj
             + dissipated_mj(
                 i_fault_ka,
                 circuit.r_fault_ohm + circuit.r_total_ohm,
                 k.dt_ms,
             ),
         fault_cleared: clears,
-        clearing_time_ms: choose(clears, t_ms, s.clearing_time_ms),
-        voltage_recovery_time_ms: s.voltage_recovery_time_ms,
+        clearing_time_ms: choose(clears, t_ms, v.clearing_time_ms),
+        voltage_recovery_time_ms: v.voltage_recovery_time_ms,
         prev_fault_current_ka: i_fault_ka,
         fault_active: true,
     }
@@ -195,34 +109,45 @@ fn dissipated_mj(i_fault_ka: f64, r_ohm: f64, dt_ms: f64) -> f64
 }
 
 // At clearing all breakers open.
-fn open_breakers(breakers: &mut [bool; 32], clears: bool)
-    ensures { λ _. ⌜ now (breakers .exit) ≡ cond clears (blank 32 false) (now (breakers .entry)) ⌝ }
+fn opened_if(clears: bool, breakers: [bool; 32]) -> [bool; 32]
+    ensures { λ r. ⌜ r ≡ cond clears (blank 32 false) breakers ⌝ }
 {
     if clears {
-        let open = [false; 32];
-        *breakers = open;
+        return [false; 32];
     }
+    breakers
 }
 
-// After clearing.
-fn cleared(
-    s: FaultScalars,
+// The fault is cleared: what is left of the current fades, and the voltages recover. No RK4 step is made.
+fn after_clearing(
     k: FaultConstants,
+    rated: [f64; 96],
+    v: FaultVariables,
     t_ms: f64,
     active: bool,
-    recovered: bool,
-) -> FaultScalars
-    ensures { λ r. ⌜ r ≡ clearedScalars s k «t_ms» active recovered ⌝ }
-{
-    let circuit = k.circuit;
-    let left = decayed_current_ka(circuit, s.prev_fault_current_ka, s.clearing_time_ms, t_ms);
-    let first = recovered & (k.duration_ms <= s.voltage_recovery_time_ms);
-    FaultScalars {
+) -> FaultVariables {
+    let s = v.state;
+    let n = present(k.n_stations, 32);
+    let mut y = s.y;
+    let recovered = all_recovered(&y, &rated, n);
+    recover_voltages(&mut y, &rated, n);
+    let first = recovered & (k.duration_ms <= v.voltage_recovery_time_ms);
+    let state = DcTransientState {
         time_ms: t_ms,
-        fault_current_ka: left,
-        voltage_recovery_time_ms: choose(first, t_ms, s.voltage_recovery_time_ms),
-        fault_active: active,
+        y,
+        fault_current_ka: decayed_current_ka(
+            k.circuit,
+            v.prev_fault_current_ka,
+            v.clearing_time_ms,
+            t_ms,
+        ),
         ..s
+    };
+    FaultVariables {
+        state,
+        voltage_recovery_time_ms: choose(first, t_ms, v.voltage_recovery_time_ms),
+        fault_active: active,
+        ..v
     }
 }
 

@@ -6,9 +6,6 @@ mod switching;
 mod variables;
 
 pub use fault::fault_step;
-pub use fault::fault_step_lent;
-pub use fault::scalars_of;
-pub use fault::variables_of;
 pub use plan::FaultConstants;
 pub use plan::FaultPlan;
 pub use plan::fault_plan;
@@ -17,6 +14,5 @@ pub use switching::SwitchingPlan;
 pub use switching::first_switching_variables;
 pub use switching::switching_plan;
 pub use switching::switching_step;
-pub use variables::FaultScalars;
 pub use variables::FaultVariables;
 pub use variables::SwitchingVariables;

@@ -21,8 +21,6 @@ use Rattle.network.proofs.network_of.Reads as network-reads
 use Rattle.transient.proofs.rk4.rk4_step as step-contract
 use Rattle.transient.proofs.rk4.rk4_step.Kinds as step-kinds
 use Rattle.transient.proofs.rk4.rk4_step.Reads as step-reads
-use Rattle.transient.proofs.rk4.rk4_step_lent as lent-contract
-use Rattle.transient.proofs.rk4.rk4_step_lent.Reads as lent-reads
 
 module _ (κs : Lfts 0) (a : ArgsD network-contract.signature κs) (r : ResD network-contract.signature κs) (e : AtExit (endedOf 0 network-kinds.ps network-kinds.r) κs) where
   pub network-any : network-reads.Asked κs a
@@ -43,7 +41,3 @@ module _ (κs : Lfts 0) (a : ArgsD step-contract.signature κs) (r : ResD step-c
       → let n = stationsIn (a .0) in
       of (r .y) (n + k) ≡ of (rk4 (n + cablesIn (a .0)) (slopes (a .0) (a .1 .0)) (a .1 .1 .1 .0) (a .1 .1 .0 .y)) (n + k)
   step-currents h k l = rw h (step-claims .cable-currents (a .0) (a .1 .0) (a .1 .1 .0) (a .1 .1 .1 .0) k l)
-
-module _ (κs : Lfts 7) (a : ArgsD lent-contract.signature κs) where
-  pub lent-any : lent-reads.Asked κs a
-  lent-any = tt

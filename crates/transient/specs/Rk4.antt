@@ -1,6 +1,5 @@
 -- "Classical RK4, 1/6 (k1+2k2+2k3+k4). New voltages are at least 0." Definitions only.
 use Prim.Native.Nat.{ℕ, _+_}
-use mathlib.Core.Path.{_≡_}
 use mathlib.Core.Bool.{cond}
 use mathlib.Core.List.{List}
 use lib.Dec.{ltb}
@@ -74,20 +73,3 @@ module _ (w : Network) where
 
   abbrev pub rk4Step : Drain → DcTransientState → Float → DcTransientState
   rk4Step d s dt = stepBy stationsIn cablesIn (end (w .from)) (end (w .to)) (slopes d) s dt
-
--- A network whose tables are lent, and what a step on lent arrays leaves: y and the station currents after the step.
-abbrev pub networkWith : (n m : ℕ) → (from to : List ℕ) → (r l c : List Float) → Network
-networkWith n m from to r l c =
-    record {
-      «n_stations» = n;
-      «n_cables» = m;
-      from = from;
-      to = to;
-      «resistance_ohm» = r;
-      «inductance_h» = l;
-      «capacitance_f» = c;
-    }
-
-pub record SteppedTo (w : Network) (d : Drain) (dt : Float) (y y′ currents′ : List Float) : Type 0 where
-  pub numbers : y′ ≡ newState (stationsIn w) (cablesIn w) (slopes w d) dt y
-  pub currents : currents′ ≡ currentsAfter (stationsIn w) (cablesIn w) (end (w .from)) (end (w .to)) (slopes w d) dt y

@@ -9,6 +9,8 @@ ghost use Rattle.float64.specs.Constants.{nought};
 ghost use Rattle.float64.specs.Arithmetic.{of, _⊖_, _⊗_, _⊘_};
 ghost use Rattle.network.specs.Network.{end};
 ghost use Rattle.transient.specs.Derivatives.{passed, net, drainCurrent, drained, cableRate, derivatives};
+use crate::state::StageSlopes;
+use crate::state::StageState;
 use grid::cut_end;
 use network::Drain;
 
@@ -27,27 +29,36 @@ struct StationStage {
     capacitance_f: f64,
 }
 
-// DcSwitchingSimulator::state_derivatives, into zeros
+// What is the same in every stage of a step, less the network's tables: n stations, m cables, and what a fault drains.
+pub struct StageSetting {
+    pub n: usize,
+    pub m: usize,
+    pub drain: Drain,
+}
+
+// DcSwitchingSimulator::state_derivatives
 pub fn state_derivatives(
-    dy: &mut [f64; 96],
     from: &[usize; 64],
     to: &[usize; 64],
     r: &[f64; 64],
     l: &[f64; 64],
     c: &[f64; 32],
-    drain: Drain,
-    y: &[f64; 96],
-    n: usize,
-    m: usize,
-)
-    requires { ⌜ (n ≤ 32) × (m ≤ 64) × (dy .now ≡ blank 96 nought) ⌝ }
-    ensures { λ _. ⌜ now (dy .exit) ≡ derivatives (end (now (from .entry))) (end (now (to .entry))) (of (now (r .entry))) (of (now (l .entry))) (of (now (c .entry))) drain n m (now (y .entry)) ⌝ }
+    setting: StageSetting,
+    state: StageState,
+) -> StageSlopes
+    requires { ⌜ (setting .n ≤ 32) × (setting .m ≤ 64) ⌝ }
+    ensures { λ k. ⌜ k .dy ≡ derivatives (end (now (from .entry))) (end (now (to .entry))) (of (now (r .entry))) (of (now (l .entry))) (of (now (c .entry))) (setting .drain) (setting .n) (setting .m) (state .y) ⌝ }
 {
+    let n = setting.n;
+    let m = setting.m;
+    let y = state.y;
     let mut nets = [0.0; 32];
-    net_currents(&mut nets, from, to, y, n, m);
-    drain_ends(&mut nets, drain, y, n);
-    station_rates(dy, &nets, c, n);
-    cable_rates(dy, from, to, r, l, y, n, m);
+    net_currents(&mut nets, from, to, &y, n, m);
+    drain_ends(&mut nets, setting.drain, &y, n);
+    let mut dy = [0.0; 96];
+    station_rates(&mut dy, &nets, c, n);
+    cable_rates(&mut dy, from, to, r, l, &y, n, m);
+    StageSlopes { dy }
 }
 
 // The current into each station, into zeros. One pass over the cables: to each station's sum they are added in their order, as if the

@@ -4,5 +4,4 @@ mod rk4;
 mod state;
 
 pub use rk4::rk4_step;
-pub use rk4::rk4_step_lent;
 pub use state::DcTransientState;

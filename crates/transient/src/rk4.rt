@@ -2,20 +2,29 @@
 ghost use mathlib.Core.Path.{_≡_};
 ghost use Prim.Native.Nat.{_+_, _≤_};
 ghost use lib.Ieee.{nan};
-ghost use Rattle.lists.specs.Tables.{blank, over};
+ghost use Rattle.lists.specs.Tables.{over};
 ghost use Rattle.float64.specs.Constants.{nought};
 ghost use Rattle.float64.specs.Arithmetic.{of};
 ghost use Rattle.float64.specs.Choice.{maxOf};
 ghost use Rattle.network.specs.Network.{end};
 ghost use Rattle.transient.specs.Derivatives.{derivatives};
-ghost use Rattle.transient.specs.Rk4.{ahead, blended, weighted, rk4, rk4Step, networkWith, SteppedTo};
+ghost use Rattle.transient.specs.Rk4.{ahead, blended, weighted, rk4Step};
+use crate::derivatives::StageSetting;
 use crate::derivatives::net_currents;
 use crate::derivatives::state_derivatives;
 use crate::state::DcTransientState;
+use crate::state::StageSlopes;
+use crate::state::StageState;
 use float64::max;
 use grid::present;
 use network::Drain;
 use network::Network;
+
+// A stage ahead of the start: so many seconds on.
+struct Stage {
+    setting: StageSetting,
+    ahead_s: f64,
+}
 
 // The slopes of one number of the state.
 struct Slopes {
@@ -25,7 +34,7 @@ struct Slopes {
     k4: f64,
 }
 
-// DcSwitchingSimulator::rk4_step
+// DcSwitchingSimulator::rk4_step: k1 at the start, k2 and k3 half a step on, k4 a whole step on, and their blend.
 pub fn rk4_step(
     network: Network,
     drain: Drain,
@@ -39,24 +48,29 @@ pub fn rk4_step(
     let r = network.resistance_ohm;
     let l = network.inductance_h;
     let c = network.capacitance_f;
-    let mut y = state.y;
-    let mut currents = state.station_currents_ka;
+    let n = present(network.n_stations, 32);
+    let m = present(network.n_cables, 64);
+    let setting = StageSetting { n, m, drain };
+    let half_on = Stage {
+        setting,
+        ahead_s: 0.5 * dt_s,
+    };
+    let whole_on = Stage {
+        setting,
+        ahead_s: dt_s,
+    };
+    let y0 = state.y;
+    let start = StageState { y: y0 };
+    let k1 = state_derivatives(&from, &to, &r, &l, &c, setting, start);
+    let k2 = slopes_ahead(&from, &to, &r, &l, &c, half_on, start, k1);
+    let k3 = slopes_ahead(&from, &to, &r, &l, &c, half_on, start, k2);
+    let k4 = slopes_ahead(&from, &to, &r, &l, &c, whole_on, start, k3);
+    let moved = blend(start, dt_s / 6.0, k1, k2, k3, k4, n + m);
+    let raised = raise_voltages(moved, n);
+    let y = raised.y;
     let breaker_states = state.breaker_states;
-    let n = network.n_stations;
-    let m = network.n_cables;
-    rk4_step_lent(
-        &mut y,
-        &mut currents,
-        &from,
-        &to,
-        &r,
-        &l,
-        &c,
-        drain,
-        n,
-        m,
-        dt_s,
-    );
+    let mut currents = [0.0; 32];
+    net_currents(&mut currents, &from, &to, &y, n, m);
     DcTransientState {
         time_ms: state.time_ms,
         y,
@@ -66,122 +80,72 @@ pub fn rk4_step(
     }
 }
 
-// The same step for a loop over steps: the arrays are lent, so that none is copied in each turn but the new ones.
-pub fn rk4_step_lent(
-    y: &mut [f64; 96],
-    currents: &mut [f64; 32],
-    from: &[usize; 64],
-    to: &[usize; 64],
-    r: &[f64; 64],
-    l: &[f64; 64],
-    c: &[f64; 32],
-    drain: Drain,
-    n_stations: usize,
-    n_cables: usize,
-    dt_s: f64,
-)
-    ensures { λ _. ⌜ SteppedTo (networkWith «n_stations» «n_cables» (now (from .entry)) (now (to .entry)) (now (r .entry)) (now (l .entry)) (now (c .entry))) drain «dt_s» (now (y .entry)) (now (y .exit)) (now (currents .exit)) ⌝ }
-{
-    let n = present(n_stations, 32);
-    let m = present(n_cables, 64);
-    let mut y_new = [0.0; 96];
-    combine_stages(&mut y_new, y, dt_s, from, to, r, l, c, drain, n, m);
-    raise_voltages(&mut y_new, n);
-    let mut nets = [0.0; 32];
-    net_currents(&mut nets, from, to, &y_new, n, m);
-    *y = y_new;
-    *currents = nets;
-}
-
-// The four stages and their sum, into zeros: k1 at the start, k2 and k3 half a step on, k4 a whole step on.
-fn combine_stages(
-    out: &mut [f64; 96],
-    y: &[f64; 96],
-    dt_s: f64,
-    from: &[usize; 64],
-    to: &[usize; 64],
-    r: &[f64; 64],
-    l: &[f64; 64],
-    c: &[f64; 32],
-    drain: Drain,
-    n: usize,
-    m: usize,
-)
-    requires { ⌜ (n ≤ 32) × (m ≤ 64) × (out .now ≡ blank 96 nought) ⌝ }
-    ensures { λ _. ⌜ now (out .exit) ≡ rk4 (n + m) (derivatives (end (now (from .entry))) (end (now (to .entry))) (of (now (r .entry))) (of (now (l .entry))) (of (now (c .entry))) drain n m) «dt_s» (now (y .entry)) ⌝ }
-{
-    let half = 0.5 * dt_s;
-    let mut k1 = [0.0; 96];
-    state_derivatives(&mut k1, from, to, r, l, c, drain, y, n, m);
-    let mut k2 = [0.0; 96];
-    slopes_ahead(&mut k2, y, half, &k1, from, to, r, l, c, drain, n, m);
-    let mut k3 = [0.0; 96];
-    slopes_ahead(&mut k3, y, half, &k2, from, to, r, l, c, drain, n, m);
-    let mut k4 = [0.0; 96];
-    slopes_ahead(&mut k4, y, dt_s, &k3, from, to, r, l, c, drain, n, m);
-    blend(out, y, dt_s / 6.0, &k1, &k2, &k3, &k4, n + m);
-}
-
-// The slopes at the state that the slopes k lead to, into zeros.
+// The slopes at the state that the slopes k lead to.
 fn slopes_ahead(
-    slopes: &mut [f64; 96],
-    y: &[f64; 96],
-    h: f64,
-    k: &[f64; 96],
     from: &[usize; 64],
     to: &[usize; 64],
     r: &[f64; 64],
     l: &[f64; 64],
     c: &[f64; 32],
-    drain: Drain,
-    n: usize,
-    m: usize,
-)
-    requires { ⌜ (n ≤ 32) × (m ≤ 64) × (slopes .now ≡ blank 96 nought) ⌝ }
-    ensures { λ _. ⌜ now (slopes .exit) ≡ derivatives (end (now (from .entry))) (end (now (to .entry))) (of (now (r .entry))) (of (now (l .entry))) (of (now (c .entry))) drain n m (ahead (n + m) (now (y .entry)) h (now (k .entry))) ⌝ }
+    stage: Stage,
+    start: StageState,
+    k: StageSlopes,
+) -> StageSlopes
+    requires { ⌜ (stage .setting .n ≤ 32) × (stage .setting .m ≤ 64) ⌝ }
+    ensures { λ s. ⌜ s .dy ≡ derivatives (end (now (from .entry))) (end (now (to .entry))) (of (now (r .entry))) (of (now (l .entry))) (of (now (c .entry))) (stage .setting .drain) (stage .setting .n) (stage .setting .m) (ahead (stage .setting .n + stage .setting .m) (start .y) (stage .«ahead_s») (k .dy)) ⌝ }
 {
-    let mut y_ahead = [0.0; 96];
-    move_along(&mut y_ahead, y, h, k, n + m);
-    state_derivatives(slopes, from, to, r, l, c, drain, &y_ahead, n, m);
+    let setting = stage.setting;
+    let there = move_along(start, stage.ahead_s, k, setting.n + setting.m);
+    state_derivatives(from, to, r, l, c, setting, there)
 }
 
-// The state of a stage, into zeros.
-fn move_along(out: &mut [f64; 96], y: &[f64; 96], h: f64, k: &[f64; 96], size: usize)
-    requires { ⌜ (size ≤ 96) × (out .now ≡ blank 96 nought) ⌝ }
-    ensures { λ _. ⌜ now (out .exit) ≡ ahead size (now (y .entry)) h (now (k .entry)) ⌝ }
+// Where the slopes k lead in h seconds.
+fn move_along(start: StageState, h: f64, k: StageSlopes, size: usize) -> StageState
+    requires { ⌜ size ≤ 96 ⌝ }
+    ensures { λ r. ⌜ r .y ≡ ahead size (start .y) h (k .dy) ⌝ }
 {
+    let y = start.y;
+    let dy = k.dy;
+    let mut out = [0.0; 96];
     let mut i = 0;
     while i < size {
-        out[i] = y[i] + h * k[i];
+        out[i] = y[i] + h * dy[i];
         i += 1;
     }
+    StageState { y: out }
 }
 
-// The slopes of all stages together, into zeros.
+// Where the slopes of all four stages together lead, of which a sixth of the step is handed in.
 fn blend(
-    out: &mut [f64; 96],
-    y: &[f64; 96],
+    start: StageState,
     sixth: f64,
-    k1: &[f64; 96],
-    k2: &[f64; 96],
-    k3: &[f64; 96],
-    k4: &[f64; 96],
+    k1: StageSlopes,
+    k2: StageSlopes,
+    k3: StageSlopes,
+    k4: StageSlopes,
     size: usize,
-)
-    requires { ⌜ (size ≤ 96) × (out .now ≡ blank 96 nought) ⌝ }
-    ensures { λ _. ⌜ now (out .exit) ≡ blended size (now (y .entry)) sixth (now (k1 .entry)) (now (k2 .entry)) (now (k3 .entry)) (now (k4 .entry)) ⌝ }
+) -> StageState
+    requires { ⌜ size ≤ 96 ⌝ }
+    ensures { λ r. ⌜ r .y ≡ blended size (start .y) sixth (k1 .dy) (k2 .dy) (k3 .dy) (k4 .dy) ⌝ }
 {
+    let y = start.y;
+    let dy1 = k1.dy;
+    let dy2 = k2.dy;
+    let dy3 = k3.dy;
+    let dy4 = k4.dy;
+    let mut out = [0.0; 96];
     let mut i = 0;
     while i < size {
         let s = Slopes {
-            k1: k1[i],
-            k2: k2[i],
-            k3: k3[i],
-            k4: k4[i],
+            k1: dy1[i],
+            k2: dy2[i],
+            k3: dy3[i],
+            k4: dy4[i],
         };
         out[i] = y[i] + sixth * weigh(s);
         i += 1;
     }
+    StageState { y: out }
 }
 
 fn weigh(s: Slopes) -> f64
@@ -191,13 +155,15 @@ fn weigh(s: Slopes) -> f64
 }
 
 // New voltages are at least 0.
-fn raise_voltages(y: &mut [f64; 96], n: usize)
+fn raise_voltages(moved: StageState, n: usize) -> StageState
     requires { ⌜ n ≤ 32 ⌝ }
-    ensures { λ _. ⌜ now (y .exit) ≡ over n (λ i. maxOf (of (now (y .entry)) i) nought) nan (now (y .entry)) ⌝ }
+    ensures { λ r. ⌜ r .y ≡ over n (λ i. maxOf (of (moved .y) i) nought) nan (moved .y) ⌝ }
 {
+    let mut y = moved.y;
     let mut i = 0;
     while i < n {
         y[i] = max(y[i], 0.0);
         i += 1;
     }
+    StageState { y }
 }

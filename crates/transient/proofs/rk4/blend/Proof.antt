@@ -14,43 +14,44 @@ use Rattle.transient.proofs.rk4.blend.Statement.{statement}
 use Rattle.transient.proofs.rk4.blend.Tie as tie
 
 abbrev Inv-loop : tie.InvT-loop
-Inv-loop out₀ y sixth k1 k2 k3 k4 size i₀ out i = (i ≤ size) × (out ≡ upto i (λ j. of y j ⊕ sixth ⊗ weighted (of k1 j) (of k2 j) (of k3 j) (of k4 j)) (blank 96 nought))
+Inv-loop sixth size y dy1 dy2 dy3 dy4 out₀ i₀ out i = (i ≤ size) × (out ≡ upto i (λ j. of y j ⊕ sixth ⊗ weighted (of dy1 j) (of dy2 j) (of dy3 j) (of dy4 j)) (blank 96 nought))
 
 abbrev μ-loop : tie.MeasureT-loop
-μ-loop out₀ y sixth k1 k2 k3 k4 size i₀ out i = size - i
+μ-loop sixth size y dy1 dy2 dy3 dy4 out₀ i₀ out i = size - i
 
 loop-holds : tie.Need-loop-holds Inv-loop μ-loop
-loop-holds c = (omega arith, rw (c .pre .1) (upto-none _ _))
+unfolding blank
+loop-holds c = (omega arith, upto-none _ _)
 
 mul-out : tie.Need-mul-out Inv-loop μ-loop
 mul-out c = search needs
 
-element-copy-out-out : tie.Need-element-copy-out-out Inv-loop μ-loop
-element-copy-out-out c = search needs
+array-read-out : tie.Need-array-read-out Inv-loop μ-loop
+array-read-out c = search needs
 
 mul-out-2 : tie.Need-mul-out-2 Inv-loop μ-loop
 mul-out-2 c = search needs
 
-element-copy-out-out-2 : tie.Need-element-copy-out-out-2 Inv-loop μ-loop
-element-copy-out-out-2 c = search needs
+array-read-out-2 : tie.Need-array-read-out-2 Inv-loop μ-loop
+array-read-out-2 c = search needs
 
 mul-out-3 : tie.Need-mul-out-3 Inv-loop μ-loop
 mul-out-3 c = search needs
 
-element-copy-out-out-3 : tie.Need-element-copy-out-out-3 Inv-loop μ-loop
-element-copy-out-out-3 c = search needs
+array-read-out-3 : tie.Need-array-read-out-3 Inv-loop μ-loop
+array-read-out-3 c = search needs
 
 mul-out-4 : tie.Need-mul-out-4 Inv-loop μ-loop
 mul-out-4 c = search needs
 
-element-copy-out-out-4 : tie.Need-element-copy-out-out-4 Inv-loop μ-loop
-element-copy-out-out-4 c = search needs
+array-read-out-4 : tie.Need-array-read-out-4 Inv-loop μ-loop
+array-read-out-4 c = search needs
 
 mul-out-5 : tie.Need-mul-out-5 Inv-loop μ-loop
 mul-out-5 c = search needs
 
-element-copy-out-out-5 : tie.Need-element-copy-out-out-5 Inv-loop μ-loop
-element-copy-out-out-5 c = search needs
+array-read-out-5 : tie.Need-array-read-out-5 Inv-loop μ-loop
+array-read-out-5 c = search needs
 
 weigh-requires : tie.Need-weigh-requires Inv-loop μ-loop
 weigh-requires c κs = search needs
@@ -58,8 +59,8 @@ weigh-requires c κs = search needs
 mul-out-6 : tie.Need-mul-out-6 Inv-loop μ-loop
 mul-out-6 c = search needs
 
-element-write-out : tie.Need-element-write-out Inv-loop μ-loop
-element-write-out c = search needs
+array-write-out : tie.Need-array-write-out Inv-loop μ-loop
+array-write-out c = search needs
 
 add-i : tie.Need-add-i Inv-loop μ-loop
 add-i c = search needs
@@ -69,16 +70,16 @@ loop-less c = search needs
 
 loop-again : tie.Need-loop-again Inv-loop μ-loop
 loop-again c =
-    let l = c .before .before .before .before .before .before .before in
-    (omega arith, upto-more _ _ _ (l .loop .inv .1) (rw (c .weigh .ensures)))
+    (omega arith, upto-more _ _ _ (c .before .before .loop .inv .1) (rw (c .weigh .ensures)))
 
 returns : tie.Need-returns Inv-loop μ-loop
 unfolding blended
 returns c =
-    let a = c .before .before .args in
-    let f : ℕ → Float = λ i. of (a .y .now) i ⊕ a .sixth ⊗ weighted (of (a .k1 .now) i) (of (a .k2 .now) i) (of (a .k3 .now) i) (of (a .k4 .now) i) in
+    let s = c .before .before .before .before .before .before .before in
+    let a = s .args in
+    let f : ℕ → Float = λ i. of (a .start .y) i ⊕ a .sixth ⊗ weighted (of (a .k1 .dy) i) (of (a .k2 .dy) i) (of (a .k3 .dy) i) (of (a .k4 .dy) i) in
     at-end (λ n. upto n f (blank 96 nought)) (c .before .loop .inv .0) (c .loop-test .left) (c .before .loop .inv .1)
-    ∙ upto-padded (a .size) 96 f nought (c .before .before .pre .0)
+    ∙ upto-padded (a .size) 96 f nought (s .pre)
 
 pub blend-spec : {M : Type 1} → statement M
 blend-spec =
@@ -88,18 +89,18 @@ blend-spec =
     μ-loop
     loop-holds
     mul-out
-    element-copy-out-out
+    array-read-out
     mul-out-2
-    element-copy-out-out-2
+    array-read-out-2
     mul-out-3
-    element-copy-out-out-3
+    array-read-out-3
     mul-out-4
-    element-copy-out-out-4
+    array-read-out-4
     mul-out-5
-    element-copy-out-out-5
+    array-read-out-5
     weigh-requires
     mul-out-6
-    element-write-out
+    array-write-out
     add-i
     loop-less
     loop-again

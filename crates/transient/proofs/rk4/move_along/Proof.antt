@@ -13,31 +13,32 @@ use Rattle.transient.proofs.rk4.move_along.Statement.{statement}
 use Rattle.transient.proofs.rk4.move_along.Tie as tie
 
 abbrev Inv-loop : tie.InvT-loop
-Inv-loop out₀ y h k size i₀ out i = (i ≤ size) × (out ≡ upto i (λ j. of y j ⊕ h ⊗ of k j) (blank 96 nought))
+Inv-loop h size y dy out₀ i₀ out i = (i ≤ size) × (out ≡ upto i (λ j. of y j ⊕ h ⊗ of dy j) (blank 96 nought))
 
 abbrev μ-loop : tie.MeasureT-loop
-μ-loop out₀ y h k size i₀ out i = size - i
+μ-loop h size y dy out₀ i₀ out i = size - i
 
 loop-holds : tie.Need-loop-holds Inv-loop μ-loop
-loop-holds c = (omega arith, rw (c .pre .1) (upto-none _ _))
+unfolding blank
+loop-holds c = (omega arith, upto-none _ _)
 
 mul-out : tie.Need-mul-out Inv-loop μ-loop
 mul-out c = search needs
 
-element-copy-out-out : tie.Need-element-copy-out-out Inv-loop μ-loop
-element-copy-out-out c = search needs
+array-read-out : tie.Need-array-read-out Inv-loop μ-loop
+array-read-out c = search needs
 
 mul-out-2 : tie.Need-mul-out-2 Inv-loop μ-loop
 mul-out-2 c = search needs
 
-element-copy-out-out-2 : tie.Need-element-copy-out-out-2 Inv-loop μ-loop
-element-copy-out-out-2 c = search needs
+array-read-out-2 : tie.Need-array-read-out-2 Inv-loop μ-loop
+array-read-out-2 c = search needs
 
 mul-out-3 : tie.Need-mul-out-3 Inv-loop μ-loop
 mul-out-3 c = search needs
 
-element-write-out : tie.Need-element-write-out Inv-loop μ-loop
-element-write-out c = search needs
+array-write-out : tie.Need-array-write-out Inv-loop μ-loop
+array-write-out c = search needs
 
 add-i : tie.Need-add-i Inv-loop μ-loop
 add-i c = search needs
@@ -47,15 +48,15 @@ loop-less c = search needs
 
 loop-again : tie.Need-loop-again Inv-loop μ-loop
 loop-again c =
-    let l = c .before .before .before in
-    (omega arith, upto-more _ _ _ (l .loop .inv .1) refl)
+    (omega arith, upto-more _ _ _ (c .before .loop .inv .1) refl)
 
 returns : tie.Need-returns Inv-loop μ-loop
 unfolding ahead
 returns c =
-    let a = c .before .before .args in
-    at-end (λ n. upto n (λ i. of (a .y .now) i ⊕ a .h ⊗ of (a .k .now) i) (blank 96 nought)) (c .before .loop .inv .0) (c .loop-test .left) (c .before .loop .inv .1)
-    ∙ upto-padded (a .size) 96 _ nought (c .before .before .pre .0)
+    let s = c .before .before .before .before in
+    let a = s .args in
+    at-end (λ n. upto n (λ i. of (a .start .y) i ⊕ a .h ⊗ of (a .k .dy) i) (blank 96 nought)) (c .before .loop .inv .0) (c .loop-test .left) (c .before .loop .inv .1)
+    ∙ upto-padded (a .size) 96 _ nought (s .pre)
 
 pub move-along-spec : {M : Type 1} → statement M
 move-along-spec =
@@ -65,11 +66,11 @@ move-along-spec =
     μ-loop
     loop-holds
     mul-out
-    element-copy-out-out
+    array-read-out
     mul-out-2
-    element-copy-out-out-2
+    array-read-out-2
     mul-out-3
-    element-write-out
+    array-write-out
     add-i
     loop-less
     loop-again

@@ -13,10 +13,10 @@ use Rattle.transient.proofs.rk4.raise_voltages.Statement.{statement}
 use Rattle.transient.proofs.rk4.raise_voltages.Tie as tie
 
 abbrev Inv-loop : tie.InvT-loop
-Inv-loop y₀ n i₀ y i = (i ≤ n) × (y ≡ upto i (λ k. maxOf (of y₀ k) nought) y₀)
+Inv-loop n y₀ i₀ y i = (i ≤ n) × (y ≡ upto i (λ k. maxOf (of y₀ k) nought) y₀)
 
 abbrev μ-loop : tie.MeasureT-loop
-μ-loop y₀ n i₀ y i = n - i
+μ-loop n y₀ i₀ y i = n - i
 
 loop-holds : tie.Need-loop-holds Inv-loop μ-loop
 loop-holds c = (omega arith, upto-none _ _)
@@ -24,8 +24,8 @@ loop-holds c = (omega arith, upto-none _ _)
 mul-max : tie.Need-mul-max Inv-loop μ-loop
 mul-max c = search needs
 
-element-copy-out-max : tie.Need-element-copy-out-max Inv-loop μ-loop
-element-copy-out-max c = search needs
+array-read-max : tie.Need-array-read-max Inv-loop μ-loop
+array-read-max c = search needs
 
 max-requires : tie.Need-max-requires Inv-loop μ-loop
 max-requires c κs = search needs
@@ -33,8 +33,8 @@ max-requires c κs = search needs
 mul-y : tie.Need-mul-y Inv-loop μ-loop
 mul-y c = search needs
 
-element-write-y : tie.Need-element-write-y Inv-loop μ-loop
-element-write-y c = search needs
+array-write-y : tie.Need-array-write-y Inv-loop μ-loop
+array-write-y c = search needs
 
 add-i : tie.Need-add-i Inv-loop μ-loop
 add-i c = search needs
@@ -44,15 +44,15 @@ loop-less c = search needs
 
 loop-again : tie.Need-loop-again Inv-loop μ-loop
 loop-again c =
-    let l = c .before .before .before in
-    let a = l .before .args in
-    (omega arith, upto-more _ _ _ (l .loop .inv .1) (rw (c .max .ensures, l .loop .inv .1, getD-upto-out (l .loop .i) _ (a .y .now) nan (l .loop .i) (omega arith))))
+    let l = c .before .before in
+    let y = l .before .before .args .moved .y in
+    (omega arith, upto-more _ _ _ (l .loop .inv .1) (rw (c .max .ensures, l .loop .inv .1, getD-upto-out (l .loop .i) _ y nan (l .loop .i) (omega arith))))
 
 returns : tie.Need-returns Inv-loop μ-loop
 returns c =
-    let a = c .before .before .args in
-    at-end (λ k. upto k (λ i. maxOf (of (a .y .now) i) nought) (a .y .now)) (c .before .loop .inv .0) (c .loop-test .left) (c .before .loop .inv .1)
-    ∙ upto-over (a .n) _ nan (a .y .now)
+    let a = c .before .before .before .args in
+    at-end (λ k. upto k (λ i. maxOf (of (a .moved .y) i) nought) (a .moved .y)) (c .before .loop .inv .0) (c .loop-test .left) (c .before .loop .inv .1)
+    ∙ upto-over (a .n) _ nan (a .moved .y)
 
 pub raise-voltages-spec : {M : Type 1} → statement M
 raise-voltages-spec =
@@ -62,10 +62,10 @@ raise-voltages-spec =
     μ-loop
     loop-holds
     mul-max
-    element-copy-out-max
+    array-read-max
     max-requires
     mul-y
-    element-write-y
+    array-write-y
     add-i
     loop-less
     loop-again

@@ -1,7 +1,5 @@
 -- `slopes_ahead` meets its contract. Assumes nothing.
-use Rattle.lists.specs.Tables.{blank}
-use native.Mathlib.Omega.{arith}
-use mathlib.Core.Path.{refl, _∙_}
+use mathlib.Core.Path.{_∙_}
 use borrow.Author.Needs.{needs}
 use Rattle.transient.proofs.rk4.slopes_ahead.Statement.{statement}
 use Rattle.transient.proofs.rk4.slopes_ahead.Tie as tie
@@ -10,14 +8,13 @@ add-move-along : tie.Need-add-move-along
 add-move-along c = search needs
 
 move-along-requires : tie.Need-move-along-requires
-unfolding blank
-move-along-requires c κs = (omega (arith, c .before .pre .0, c .before .pre .1), refl)
+move-along-requires c κs = search needs
 
 state-derivatives-requires : tie.Need-state-derivatives-requires
 state-derivatives-requires c κs = search needs
 
 returns : tie.Need-returns
-returns c = c .state-derivatives .ensures ∙ rw (c .before .before .before .move-along .ensures)
+returns c = c .state-derivatives .ensures ∙ rw (c .before .move-along .ensures)
 
 pub slopes-ahead-spec : {M : Type 1} → statement M
 slopes-ahead-spec =
