@@ -12,7 +12,7 @@ use Rattle.portions.specs.declared.Stop.{Stop}
 use Rattle.portions.specs.Stopping.{memoryOf}
 use Rattle.portions.proofs.Loop.{Came}
 use Rattle.event_step.specs.declared.variables.SwitchingVariables.{SwitchingVariables}
-use Rattle.event_step.specs.declared.switching.SwitchingPlan.{SwitchingPlan}
+use Rattle.event_step.specs.declared.switching_start.SwitchingPlan.{SwitchingPlan}
 use Rattle.event_step.specs.Switching.{switchingBody}
 use Rattle.event_step.specs.Plans.{switchingPlanOf, switchingPlanStep}
 use Rattle.event_step.proofs.Claims.{plan-claims}

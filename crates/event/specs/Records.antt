@@ -29,7 +29,7 @@ recordWith n m b s =
 abbrev pub recordOf : DcSwitchingSimulator → DcTransientState → List Float
 recordOf g s = recordWith (length (stationsOf g)) (length (cablesOf g)) (length (breakersOf g)) s
 
--- ---- as the code writes it: the counts in a struct, the state in parts
+-- ---- as the code writes it: the counts in a struct
 
 abbrev pub numbersIn : RecordCounts → ℕ
 numbersIn c = 2 + c .stations + c .stations + c .cables + c .breakers
@@ -43,7 +43,5 @@ pub record Counted (c : RecordCounts) : Type 0 where
   pub cables : c .cables ≤ 64
   pub breakers : c .breakers ≤ 32
 
-abbrev pub recordBy : RecordCounts → (time current : Float) → (y currents : List Float) → (closed : List Bool) → List Float
-recordBy c time current y currents closed =
-    recordWith (c .stations) (c .cables) (c .breakers)
-    record { «time_ms» = time; y = y; «station_currents_ka» = currents; «fault_current_ka» = current; «breaker_states» = closed }
+abbrev pub recordBy : RecordCounts → DcTransientState → List Float
+recordBy c s = recordWith (c .stations) (c .cables) (c .breakers) s

@@ -13,6 +13,9 @@ use event_step::FaultVariables;
 use event_step::fault_plan;
 use event_step::fault_step;
 use event_step::first_fault_variables;
+use event_step::quiet_step;
+use event_step::rests;
+use event_step::waits;
 use grid::DcFaultEvent;
 use grid::DcFaultType;
 use grid::DcSwitchingSimulator;
@@ -131,6 +134,7 @@ impl FaultRun {
         let mut made = self.steps_made;
         let mut steps: u64 = 0;
         let mut out: usize = 0;
+        let mut resting = false;
         loop {
             let recorded = is_recorded(made, n);
             let ended = made == n;
@@ -149,10 +153,13 @@ impl FaultRun {
                     },
                 };
             }
-            let next = fault_step(plan, made, v);
-            v = next;
-            let state = next.state;
-            out += put_if_recorded(recorded, records, size * out, state, counts);
+            if resting | waits(plan.constants, made, v) {
+                v = quiet_step(plan.constants, made, v);
+            } else {
+                v = fault_step(plan, made, v);
+                resting = rests(plan, v);
+            }
+            out += put_if_recorded(recorded, records, size * out, v.state, counts);
             made += 1;
             steps += 1;
         }

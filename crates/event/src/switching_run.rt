@@ -138,10 +138,8 @@ impl SwitchingRun {
                     },
                 };
             }
-            let next = switching_step(plan, made, v);
-            v = next;
-            let state = next.state;
-            out += put_if_recorded(recorded, records, size * out, state, counts);
+            v = switching_step(plan, made, v);
+            out += put_if_recorded(recorded, records, size * out, v.state, counts);
             made += 1;
             steps += 1;
         }

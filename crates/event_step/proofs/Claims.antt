@@ -1,12 +1,14 @@
 -- The claims of specs/Claims. Assumes nothing.
-use Prim.Native.Nat.{ℕ, _≤_, min}
+use Prim.Native.Nat.{ℕ, _+_, _≤_, min}
 use native.Mathlib.Omega.{arith}
-use mathlib.Core.Path.{_≡_, refl, ap}
+use mathlib.Core.Path.{_≡_, refl, ap, _∙_}
 use mathlib.Core.Bool.{Bool, true, false, not, _&&_, cond}
+use mathlib.Core.List.{List}
 use lib.Ieee.{Float, nan, le}
-use Rattle.lists.proofs.Fills.{getD-padded}
+use Rattle.lists.specs.Tables.{over}
+use Rattle.lists.proofs.Fills.{getD-padded, getD-upto-out, upto-over}
 use Rattle.float64.specs.Constants.{nought, milli}
-use Rattle.float64.specs.Arithmetic.{_⊗_}
+use Rattle.float64.specs.Arithmetic.{_⊗_, of}
 use Rattle.grid.specs.declared.parts.DcFaultEvent.{DcFaultEvent}
 use Rattle.grid.specs.declared.simulator.DcSwitchingSimulator.{DcSwitchingSimulator}
 use Rattle.timing.specs.Steps.{timeStepMs, timeOfStep}
@@ -18,17 +20,22 @@ use Rattle.event_step.specs.declared.variables.FaultVariables.{FaultVari
 use Rattle.event_step.specs.declared.variables.SwitchingVariables.{SwitchingVariables}
 use Rattle.event_step.specs.Fault.{Setting, rated, settingOf, faultBody, body, activeAt, whileFaulted, afterClearing, beforeInception}
 use Rattle.event_step.specs.Switching.{SwitchSetting, switchBody, switchSettingOf, switchingBody}
-use Rattle.event_step.specs.Plans.{planOf, planStep, settingWith, networkLent, switchingPlanOf, switchSettingWith, switchingPlanStep}
-use Rattle.event_step.specs.Claims.{PlanClaims, StepClaims}
+use Rattle.event_step.specs.Plans.{planOf, constantsOf, ratedOf, planSetting, planStep, switchingPlanOf, switchSettingWith, switchingPlanStep}
+use Rattle.event_step.specs.Claims.{PlanClaims, Stays, StepClaims}
 use Rattle.event_step.proofs.Settings.{Agree, body-same}
+use Rattle.event_step.proofs.Phases.{waiting, resting, still-resting}
+
+-- what stands past the first n stays
+past : (n : ℕ) (f : ℕ → Float) (d : List Float) (k : ℕ) → n ≤ k → of (over n f nan d) k ≡ of d k
+past n f d k l = rw (← upto-over n f nan d) (getD-upto-out n f d nan k l)
 
 all-of-them : (n m : ℕ) → n ≤ m → min (min n m) m ≡ n
 all-of-them n m h = omega arith
 
 module _ (g : DcSwitchingSimulator) (f : DcFaultEvent) (n : g .«n_stations» ≤ 32) (m : g .«n_cables» ≤ 64) where
   -- the plan's setting and the grid's
-  agree : let p = planOf g f in Agree (settingWith (p .constants) (networkLent (p .constants) (p .network .from) (p .network .to) (p .network .«resistance_ohm») (p .network .«inductance_h») (p .network .«capacitance_f»)) (p .«rated_kv»)) (settingOf g f)
-  unfolding planOf networkOf circuitAt
+  agree : Agree (planSetting (planOf g f)) (settingOf g f)
+  unfolding planOf constantsOf ratedOf networkOf circuitAt
   agree =
       record {
         stations = all-of-them (g .«n_stations») 32 n;
@@ -68,7 +75,14 @@ module _ (g : DcSwitchingSimulator) (number : ℕ) (opens : Bool) (n : g .«n_st
   switching-plan-step step v = ap (λ (z : SwitchSetting). switchBody z step v) same-setting
 
 pub plan-claims : PlanClaims
-plan-claims = record { fault = plan-step; switching = switching-plan-step }
+plan-claims =
+    record {
+      fault = plan-step;
+      switching = switching-plan-step;
+      waiting = waiting;
+      resting = resting;
+      still-resting = λ p step v h. rw (← resting p step v h) (still-resting p step v ∙ h);
+    }
 
 of-three : {A : Type 0} (b c : Bool) (P : A → Type 0) (x y w : A) → P x → P y → P w → P (cond b x (cond c y w))
 of-three true c P x y w p q r = p
@@ -95,9 +109,9 @@ module _ (g : DcSwitchingSimulator) (f : DcFaultEvent) (step : ℕ) (v : FaultVa
   unfolding faultBody body
   is-waiting a c l = rw (a, c, l)
 
-  waiting : v .«fault_active» ≡ false → v .«fault_cleared» ≡ false → le (f .«inception_time_ms») t ≡ false → faultBody g f step v .state .y ≡ v .state .y
+  waiting-y : v .«fault_active» ≡ false → v .«fault_cleared» ≡ false → le (f .«inception_time_ms») t ≡ false → faultBody g f step v .state .y ≡ v .state .y
   unfolding beforeInception
-  waiting a c l = ap (λ (w : FaultVariables). w .state .y) (is-waiting a c l)
+  waiting-y a c l = ap (λ (w : FaultVariables). w .state .y) (is-waiting a c l)
 
   not-both : (a : Bool) → (a && not true) ≡ false
   not-both true = refl
@@ -107,13 +121,21 @@ module _ (g : DcSwitchingSimulator) (f : DcFaultEvent) (step : ℕ) (v : FaultVa
   unfolding faultBody body
   is-cleared c = rw (c, not-both (activeAt z t v))
 
-  cleared : v .«fault_cleared» ≡ true → (faultBody g f step v .state .«station_currents_ka» ≡ v .state .«station_currents_ka») × (faultBody g f step v .«peak_fault_ka» ≡ v .«peak_fault_ka») × (faultBody g f step v .«energy_mj» ≡ v .«energy_mj»)
+  after-clearing : v .«fault_cleared» ≡ true → Stays g v (faultBody g f step v)
   unfolding afterClearing
-  cleared c = rw (is-cleared c) (refl, refl, refl)
-
-  stays : v .«fault_cleared» ≡ true → faultBody g f step v .«fault_cleared» ≡ true
-  unfolding afterClearing
-  stays c = rw (is-cleared c)
+  after-clearing c =
+      rw (is-cleared c)
+      (record {
+        cable-currents = λ k. past (g .«n_stations») _ (v .state .y) (g .«n_stations» + k) (omega arith);
+        station-currents = refl;
+        breakers = refl;
+        peak = refl;
+        largest-di-dt = refl;
+        energy = refl;
+        clearing-time = refl;
+        cleared-current = refl;
+        cleared = refl;
+      })
 
 pub step-claims : StepClaims
-step-claims = record { fault-time = time; before-inception = waiting; after-clearing = cleared; stays-cleared = stays }
+step-claims = record { fault-time = time; before-inception = waiting-y; after-clearing = after-clearing }

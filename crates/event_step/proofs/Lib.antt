@@ -1,6 +1,5 @@
-pub mod Breakers
-pub mod Body
 mod Settings
+pub mod Phases
 pub mod Claims
 pub mod Tied
 mod Controls

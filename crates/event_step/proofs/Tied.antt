@@ -12,33 +12,43 @@ use Rattle.grid.specs.declared.parts.DcFaultEvent.{DcFaultEvent}
 use Rattle.timing.specs.Steps.{timeOfStep}
 use Rattle.event_step.specs.declared.variables.FaultVariables.{FaultVariables}
 use Rattle.event_step.specs.declared.variables.SwitchingVariables.{SwitchingVariables}
-use Rattle.event_step.specs.declared.plan.FaultPlan.{FaultPlan}
-use Rattle.event_step.specs.declared.switching.SwitchingPlan.{SwitchingPlan}
+use Rattle.event_step.specs.declared.fault_start.FaultPlan.{FaultPlan}
+use Rattle.event_step.specs.declared.fault_start.FaultConstants.{FaultConstants}
+use Rattle.event_step.specs.declared.switching_start.SwitchingPlan.{SwitchingPlan}
 use Rattle.event_step.specs.Fault.{faultBody, faultAfter, beforeLoop}
 use Rattle.event_step.specs.Switching.{switchingBody, switchingAfter, beforeSwitching}
 use Rattle.event_step.specs.Plans.{planStep, switchingPlanStep}
+use Rattle.event_step.specs.Quiet.{waitsBy, restsBy, quietStep}
+use Rattle.event_step.specs.Claims.{Stays}
 use Rattle.event_step.proofs.Claims.{plan-claims, step-claims}
-use Rattle.event_step.proofs.plan.fault_plan as plan-contract
-use Rattle.event_step.proofs.plan.fault_plan.Kinds as plan-kinds
-use Rattle.event_step.proofs.plan.fault_plan.Reads as plan-reads
-use Rattle.event_step.proofs.plan.first_fault_variables as first-contract
-use Rattle.event_step.proofs.plan.first_fault_variables.Kinds as first-kinds
-use Rattle.event_step.proofs.plan.first_fault_variables.Reads as first-reads
+use Rattle.event_step.proofs.fault_start.fault_plan as plan-contract
+use Rattle.event_step.proofs.fault_start.fault_plan.Kinds as plan-kinds
+use Rattle.event_step.proofs.fault_start.fault_plan.Reads as plan-reads
+use Rattle.event_step.proofs.fault_start.first_fault_variables as first-contract
+use Rattle.event_step.proofs.fault_start.first_fault_variables.Kinds as first-kinds
+use Rattle.event_step.proofs.fault_start.first_fault_variables.Reads as first-reads
 use Rattle.event_step.proofs.fault.fault_step as step-contract
 use Rattle.event_step.proofs.fault.fault_step.Kinds as step-kinds
 use Rattle.event_step.proofs.fault.fault_step.Reads as step-reads
-use Rattle.event_step.proofs.fault.fault_step_lent as lent-contract
-use Rattle.event_step.proofs.fault.fault_step_lent.Reads as lent-reads
-use Rattle.event_step.proofs.fault.scalars_of as scalars-contract
-use Rattle.event_step.proofs.fault.scalars_of.Reads as scalars-reads
-use Rattle.event_step.proofs.fault.variables_of as variables-contract
-use Rattle.event_step.proofs.fault.variables_of.Reads as variables-reads
-use Rattle.event_step.proofs.switching.switching_plan as switching-plan-contract
-use Rattle.event_step.proofs.switching.switching_plan.Kinds as switching-plan-kinds
-use Rattle.event_step.proofs.switching.switching_plan.Reads as switching-plan-reads
-use Rattle.event_step.proofs.switching.first_switching_variables as first-switching-contract
-use Rattle.event_step.proofs.switching.first_switching_variables.Kinds as first-switching-kinds
-use Rattle.event_step.proofs.switching.first_switching_variables.Reads as first-switching-reads
+use Rattle.event_step.proofs.quiet.waits as waits-contract
+use Rattle.event_step.proofs.quiet.waits.Reads as waits-reads
+use Rattle.event_step.proofs.quiet.rests as rests-contract
+use Rattle.event_step.proofs.quiet.rests.Reads as rests-reads
+use Rattle.event_step.proofs.quiet.quiet_step as quiet-contract
+use Rattle.event_step.proofs.quiet.quiet_step.Kinds as quiet-kinds
+use Rattle.event_step.proofs.quiet.quiet_step.Reads as quiet-reads
+use Rattle.event_step.proofs.fault_start.fault_constants as constants-contract
+use Rattle.event_step.proofs.fault_start.fault_constants.Reads as constants-reads
+use Rattle.event_step.proofs.shared.rated_voltages as rated-contract
+use Rattle.event_step.proofs.shared.rated_voltages.Reads as rated-reads
+use Rattle.event_step.proofs.shared.step_time_ms as time-contract
+use Rattle.event_step.proofs.shared.step_time_ms.Reads as time-reads
+use Rattle.event_step.proofs.switching_start.switching_plan as switching-plan-contract
+use Rattle.event_step.proofs.switching_start.switching_plan.Kinds as switching-plan-kinds
+use Rattle.event_step.proofs.switching_start.switching_plan.Reads as switching-plan-reads
+use Rattle.event_step.proofs.switching_start.first_switching_variables as first-switching-contract
+use Rattle.event_step.proofs.switching_start.first_switching_variables.Kinds as first-switching-kinds
+use Rattle.event_step.proofs.switching_start.first_switching_variables.Reads as first-switching-reads
 use Rattle.event_step.proofs.switching.switching_step as switching-step-contract
 use Rattle.event_step.proofs.switching.switching_step.Kinds as switching-step-kinds
 use Rattle.event_step.proofs.switching.switching_step.Reads as switching-step-reads
@@ -67,14 +77,8 @@ module _ (κs : Lfts 0) (a : ArgsD plan-contract.signature κs) (r : ResD plan-c
       step-before-inception p q t = rw step-body (step-claims .before-inception (a .0) (a .1 .0) (b .1 .0) (b .1 .1 .0) p q t)
 
       module _ (c : b .1 .1 .0 .«fault_cleared» ≡ true) where
-        pub step-after-clearing
-            : (s .state .«station_currents_ka» ≡ b .1 .1 .0 .state .«station_currents_ka»)
-            × (s .«peak_fault_ka» ≡ b .1 .1 .0 .«peak_fault_ka»)
-            × (s .«energy_mj» ≡ b .1 .1 .0 .«energy_mj»)
+        pub step-after-clearing : Stays (a .0) (b .1 .1 .0) s
         step-after-clearing = rw step-body (step-claims .after-clearing (a .0) (a .1 .0) (b .1 .0) (b .1 .1 .0) c)
-
-        pub step-stays-cleared : s .«fault_cleared» ≡ true
-        step-stays-cleared = rw step-body (step-claims .stays-cleared (a .0) (a .1 .0) (b .1 .0) (b .1 .1 .0) c)
 
       -- from 000's variables after k steps, step k leaves those after one more
       pub step-next : b .1 .1 .0 ≡ faultAfter (a .0) (a .1 .0) (b .1 .0) → s ≡ faultAfter (a .0) (a .1 .0) (suc (b .1 .0))
@@ -100,18 +104,44 @@ module _ (κs : Lfts 0) (a : ArgsD first-contract.signature κs) (r : ResD first
   unfolding faultAfter
   first-after h f = h
 
--- the step on lent arrays, and what is handed to it and back
-module _ (κs : Lfts 9) (a : ArgsD lent-contract.signature κs) where
-  pub lent-any : lent-reads.Asked κs a
-  lent-any = tt
+-- the tests for a quiet step, the step itself, and the constants of a case: nothing is asked of the caller
+module _ (κs : Lfts 0) (a : ArgsD waits-contract.signature κs) where
+  pub waits-any : waits-reads.Asked κs a
+  waits-any = tt
 
-module _ (κs : Lfts 0) (a : ArgsD scalars-contract.signature κs) where
-  pub scalars-any : scalars-reads.Asked κs a
-  scalars-any = tt
+module _ (κs : Lfts 0) (a : ArgsD rests-contract.signature κs) where
+  pub rests-any : rests-reads.Asked κs a
+  rests-any = tt
 
-module _ (κs : Lfts 0) (a : ArgsD variables-contract.signature κs) where
-  pub variables-any : variables-reads.Asked κs a
-  variables-any = tt
+module _ (κs : Lfts 0) (a : ArgsD quiet-contract.signature κs) (r : ResD quiet-contract.signature κs) (e : AtExit (endedOf 0 quiet-kinds.ps quiet-kinds.r) κs) where
+  pub quiet-any : quiet-reads.Asked κs a
+  quiet-any = tt
+
+  -- what `quiet_step` returns where the code tests for it is the plan's step
+  module _ (h : quiet-reads.Learnt κs a r e) (p : FaultPlan) (same : a .0 ≡ p .constants) where
+    as-plan : r ≡ quietStep (p .constants) (a .1 .0) (a .1 .1 .0)
+    as-plan = h ∙ ap (λ (k : FaultConstants). quietStep k (a .1 .0) (a .1 .1 .0)) same
+
+    pub quiet-waiting : waitsBy (p .constants) (a .1 .0) (a .1 .1 .0) ≡ true → r ≡ planStep p (a .1 .0) (a .1 .1 .0)
+    quiet-waiting w = as-plan ∙ plan-claims .waiting p (a .1 .0) (a .1 .1 .0) w
+
+    pub quiet-resting : restsBy p (a .1 .1 .0) ≡ true → r ≡ planStep p (a .1 .0) (a .1 .1 .0)
+    quiet-resting w = as-plan ∙ plan-claims .resting p (a .1 .0) (a .1 .1 .0) w
+
+    pub quiet-rests-on : restsBy p (a .1 .1 .0) ≡ true → restsBy p r ≡ true
+    quiet-rests-on w = rw (quiet-resting w) (plan-claims .still-resting p (a .1 .0) (a .1 .1 .0) w)
+
+module _ (κs : Lfts 0) (a : ArgsD constants-contract.signature κs) where
+  pub constants-any : constants-reads.Asked κs a
+  constants-any = tt
+
+module _ (κs : Lfts 0) (a : ArgsD rated-contract.signature κs) where
+  pub rated-any : rated-reads.Asked κs a
+  rated-any = tt
+
+module _ (κs : Lfts 0) (a : ArgsD time-contract.signature κs) where
+  pub time-any : time-reads.Asked κs a
+  time-any = tt
 
 -- ---- a switching run
 

@@ -2,4 +2,5 @@ pub mod Constants
 pub mod Fault
 pub mod Switching
 pub mod Plans
+pub mod Quiet
 pub mod Claims

@@ -1,76 +1,56 @@
 // The body of the loop in 000's simulate_fault.
 ghost use mathlib.Core.Path.{_≡_};
-ghost use mathlib.Core.Bool.{false, _||_, cond};
-ghost use lib.Ieee.{le};
+ghost use mathlib.Core.Bool.{false, cond};
 ghost use Rattle.lists.specs.Tables.{blank};
-ghost use Rattle.event_step.specs.Fault.{diDt, dissipated, whileFaulted, afterClearing, beforeInception};
-ghost use Rattle.event_step.specs.Plans.{planStep, settingWith};
-use crate::plan::FaultConstants;
-use crate::plan::FaultPlan;
+ghost use Rattle.event_step.specs.Fault.{diDt, dissipated, whileFaulted, afterClearing};
+ghost use Rattle.event_step.specs.Plans.{planSetting, planStep};
+use crate::fault_start::FaultPlan;
+use crate::quiet::quiet_step;
+use crate::quiet::waits;
 use crate::recovery::all_recovered;
 use crate::recovery::recover_voltages;
+use crate::shared::step_time_ms;
 use crate::variables::FaultVariables;
 use fault_circuit::decayed_current_ka;
 use fault_circuit::fault_current_ka;
 use float64::abs;
 use float64::max;
 use grid::present;
-use network::Network;
-use std::num::nearest_u64_to_f64;
 use transient::DcTransientState;
 use transient::rk4_step;
 
-// One step, numbered from 0. Its phase is tested first: a step before inception changes no array.
+// One step, numbered from 0. Its phase is tested first: before inception nothing but the time goes on.
 pub fn fault_step(plan: FaultPlan, step: u64, v: FaultVariables) -> FaultVariables
     ensures { λ r. ⌜ r ≡ planStep plan step v ⌝ }
 {
     let k = plan.constants;
-    let circuit = k.circuit;
-    let t_ms = nearest_u64_to_f64(step) * k.dt_ms;
-    let active = v.fault_active | (circuit.inception_time_ms <= t_ms);
+    if waits(k, step, v) {
+        return quiet_step(k, step, v);
+    }
+    let t_ms = step_time_ms(k.dt_ms, step);
     if v.fault_cleared {
-        let rated = plan.rated_kv;
-        return after_clearing(k, rated, v, t_ms, active);
+        return after_clearing(plan, v, t_ms);
     }
-    if active {
-        let network = plan.network;
-        return while_faulted(k, network, v, t_ms);
-    }
-    before_inception(v, t_ms)
-}
-
-// The fault is not active yet: only the time goes on.
-fn before_inception(v: FaultVariables, t_ms: f64) -> FaultVariables {
-    let s = v.state;
-    let state = DcTransientState { time_ms: t_ms, ..s };
-    FaultVariables {
-        state,
-        fault_active: false,
-        ..v
-    }
+    while_faulted(plan, v, t_ms)
 }
 
 // The fault is active and not cleared: an RK4 step is made.
-fn while_faulted(
-    k: FaultConstants,
-    network: Network,
-    v: FaultVariables,
-    t_ms: f64,
-) -> FaultVariables {
+fn while_faulted(plan: FaultPlan, v: FaultVariables, t_ms: f64) -> FaultVariables
+    ensures { λ r. ⌜ r ≡ whileFaulted (planSetting plan) «t_ms» v ⌝ }
+{
+    let k = plan.constants;
     let circuit = k.circuit;
     let before = v.state;
-    let after = rk4_step(network, k.drain, before, k.dt_ms * 0.001);
+    let breakers = before.breaker_states;
+    let after = rk4_step(plan.network, k.drain, before, k.dt_ms * 0.001);
     let i_fault_ka = fault_current_ka(circuit, t_ms);
     let clears = k.breaker_clear_ms <= t_ms - circuit.inception_time_ms;
-    let breakers = before.breaker_states;
-    let y = after.y;
-    let currents = after.station_currents_ka;
+    let r_ohm = circuit.r_fault_ohm + circuit.r_total_ohm;
     let state = DcTransientState {
         time_ms: t_ms,
-        y,
-        station_currents_ka: currents,
         fault_current_ka: i_fault_ka,
         breaker_states: opened_if(clears, breakers),
+        ..after
     };
     FaultVariables {
         state,
@@ -79,12 +59,7 @@ fn while_faulted(
             v.max_di_dt,
             di_dt(i_fault_ka, v.prev_fault_current_ka, k.dt_ms),
         ),
-        energy_mj: v.energy_mj
-            + dissipated_mj(
-                i_fault_ka,
-                circuit.r_fault_ohm + circuit.r_total_ohm,
-                k.dt_ms,
-            ),
+        energy_mj: v.energy_mj + dissipated_mj(i_fault_ka, r_ohm, k.dt_ms),
         fault_cleared: clears,
         clearing_time_ms: choose(clears, t_ms, v.clearing_time_ms),
         voltage_recovery_time_ms: v.voltage_recovery_time_ms,
@@ -118,35 +93,31 @@ fn opened_if(clears: bool, breakers: [bool; 32]) -> [bool; 32]
     breakers
 }
 
-// The fault is cleared: what is left of the current fades, and the voltages recover. No RK4 step is made.
-fn after_clearing(
-    k: FaultConstants,
-    rated: [f64; 96],
-    v: FaultVariables,
-    t_ms: f64,
-    active: bool,
-) -> FaultVariables {
-    let s = v.state;
+// The fault is cleared: no RK4 step, what is left of the current fades, and the voltages recover.
+fn after_clearing(plan: FaultPlan, v: FaultVariables, t_ms: f64) -> FaultVariables
+    ensures { λ r. ⌜ r ≡ afterClearing (planSetting plan) «t_ms» v ⌝ }
+{
+    let k = plan.constants;
+    let circuit = k.circuit;
+    let rated = plan.rated_kv;
+    let before = v.state;
+    let mut y = before.y;
     let n = present(k.n_stations, 32);
-    let mut y = s.y;
     let recovered = all_recovered(&y, &rated, n);
     recover_voltages(&mut y, &rated, n);
     let first = recovered & (k.duration_ms <= v.voltage_recovery_time_ms);
+    let left_ka = decayed_current_ka(circuit, v.prev_fault_current_ka, v.clearing_time_ms, t_ms);
     let state = DcTransientState {
         time_ms: t_ms,
         y,
-        fault_current_ka: decayed_current_ka(
-            k.circuit,
-            v.prev_fault_current_ka,
-            v.clearing_time_ms,
-            t_ms,
-        ),
-        ..s
+        fault_current_ka: left_ka,
+        ..before
     };
     FaultVariables {
         state,
+        fault_cleared: true,
         voltage_recovery_time_ms: choose(first, t_ms, v.voltage_recovery_time_ms),
-        fault_active: active,
+        fault_active: v.fault_active | (circuit.inception_time_ms <= t_ms),
         ..v
     }
 }

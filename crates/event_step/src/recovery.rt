@@ -1,7 +1,8 @@
 // What 000 does with the voltages after clearing.
 ghost use mathlib.Core.Path.{_≡_};
 ghost use Prim.Native.Nat.{_≤_};
-ghost use lib.Ieee.{nan, le};
+ghost use mathlib.Core.Bool.{not};
+ghost use lib.Ieee.{nan, lt, le};
 ghost use Rattle.lists.specs.Tables.{over};
 ghost use Rattle.lists.specs.Scans.{each};
 ghost use Rattle.float64.specs.Arithmetic.{of, _⊗_};
@@ -51,4 +52,19 @@ fn has_recovered(v: f64, rated: f64) -> bool
     ensures { λ r. ⌜ r ≡ le (recoveredPart ⊗ rated) v ⌝ }
 {
     0.9 * rated <= v
+}
+
+// No voltage is below its rated one. A NaN is not.
+pub fn none_below(y: &[f64; 96], rated: &[f64; 96], n: usize) -> bool
+    requires { ⌜ n ≤ 32 ⌝ }
+    ensures { λ r. ⌜ r ≡ each n (λ i. not (lt (of (now (y .entry)) i) (of (now (rated .entry)) i))) ⌝ }
+{
+    let mut i = 0;
+    while i < n {
+        if y[i] < rated[i] {
+            return false;
+        }
+        i += 1;
+    }
+    true
 }

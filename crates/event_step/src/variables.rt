@@ -17,17 +17,3 @@ pub struct SwitchingVariables {
     pub state: DcTransientState,
     pub switched: bool,
 }
-
-// Those of a fault run that are no arrays. A loop over steps has the arrays beside it, and copies none.
-pub struct FaultScalars {
-    pub time_ms: f64,
-    pub fault_current_ka: f64,
-    pub peak_fault_ka: f64,
-    pub max_di_dt: f64,
-    pub energy_mj: f64,
-    pub fault_cleared: bool,
-    pub clearing_time_ms: f64,
-    pub voltage_recovery_time_ms: f64,
-    pub prev_fault_current_ka: f64,
-    pub fault_active: bool,
-}

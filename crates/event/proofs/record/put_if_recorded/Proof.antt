@@ -1,8 +1,7 @@
 -- `put_if_recorded` meets its contract. Assumes nothing.
-use mathlib.Core.Path.{_∙_}
+use mathlib.Core.Path.{ap, _∙_}
 use lib.Seq.{length-sets}
 use lib.ListN.{length}
-use mathlib.Core.Path.{ap}
 use Rattle.event.proofs.record.put_if_recorded.Statement.{statement}
 use Rattle.event.proofs.record.put_if_recorded.Tie as tie
 

@@ -19,13 +19,19 @@ use Rattle.event.proofs.record.put_record.Tie as tie
 from-first : (x : List Float) (n : ℕ) → tab n (λ i. of x (0 + i)) ≡ tab n (of x)
 from-first x n = tab-same n _ _ (λ k l. let e : 0 + k ≡ k = omega arith in ap (of x) e)
 
-after-1 : (c : tie.After-put-numbers) → length (c .put-numbers .last .0) ≡ length (c .before .before .before .before .args .records .now)
+long-y : (s : tie.Start) → length (s .args .state .y) ≡ 96
+long-y s = search needs
+
+long-currents : (s : tie.Start) → length (s .args .state .«station_currents_ka») ≡ 32
+long-currents s = search needs
+
+after-1 : (c : tie.After-put-numbers) → length (c .put-numbers .last .0) ≡ length (c .before .before .before .before .before .before .before .args .records .now)
 after-1 c = ap length (c .put-numbers .ensures) ∙ simp (length-sets, length-set)
 
-after-2 : (c : tie.After-put-numbers2) → length (c .put-numbers2 .last .0) ≡ length (c .before .before .before .before .before .before .before .before .before .args .records .now)
+after-2 : (c : tie.After-put-numbers2) → length (c .put-numbers2 .last .0) ≡ length (c .before .before .before .before .before .before .before .before .before .before .before .before .args .records .now)
 after-2 c = ap length (c .put-numbers2 .ensures) ∙ simp length-sets (after-1 (c .before .before .before .before .before))
 
-after-3 : (c : tie.After-put-numbers3) → length (c .put-numbers3 .last .0) ≡ length (c .before .before .before .before .before .before .before .before .before .before .before .before .before .before .args .records .now)
+after-3 : (c : tie.After-put-numbers3) → length (c .put-numbers3 .last .0) ≡ length (c .before .before .before .before .before .before .before .before .before .before .before .before .before .before .before .before .before .args .records .now)
 after-3 c = ap length (c .put-numbers3 .ensures) ∙ simp length-sets (after-2 (c .before .before .before .before .before))
 
 add-voltages : tie.Need-add-voltages
@@ -52,32 +58,44 @@ mul-records-2 c = search needs
 slice-write-records-2 : tie.Need-slice-write-records-2
 slice-write-records-2 c = simp length-set (omega arith)
 
+slice-aggregate-put-numbers : tie.Need-slice-aggregate-put-numbers
+slice-aggregate-put-numbers c = search needs
+
 put-numbers-requires : tie.Need-put-numbers-requires
-put-numbers-requires c κs = (simp length-set (omega (arith, c .before .before .before .pre .1)), search needs)
+put-numbers-requires c κs = let s = c .before .before .before .before .before .before in (simp length-set (omega (arith, s .pre .1)), omega (arith, long-y s, s .pre .0 .stations))
+
+slice-aggregate-put-numbers-2 : tie.Need-slice-aggregate-put-numbers-2
+slice-aggregate-put-numbers-2 c = search needs
 
 put-numbers-requires-2 : tie.Need-put-numbers-requires-2
-put-numbers-requires-2 c κs = (omega (arith, after-1 (c .before .before .before .before), c .before .before .before .before .before .before .before .before .pre .1), search needs)
+put-numbers-requires-2 c κs = let s = c .before .before .before .before .before .before .before .before .before .before .before in (omega (arith, after-1 (c .before .before .before .before), s .pre .1), omega (arith, long-currents s, s .pre .0 .stations))
+
+slice-aggregate-put-numbers-3 : tie.Need-slice-aggregate-put-numbers-3
+slice-aggregate-put-numbers-3 c = search needs
 
 put-numbers-requires-3 : tie.Need-put-numbers-requires-3
-put-numbers-requires-3 c κs = (omega (arith, after-2 (c .before .before .before .before), c .before .before .before .before .before .before .before .before .before .before .before .before .before .pre .1), search needs)
+put-numbers-requires-3 c κs = let s = c .before .before .before .before .before .before .before .before .before .before .before .before .before .before .before .before in (omega (arith, after-2 (c .before .before .before .before), s .pre .1), omega (arith, long-y s, s .pre .0 .stations, s .pre .0 .cables))
 
 add-put-breakers : tie.Need-add-put-breakers
 add-put-breakers c = search needs
 
 put-breakers-requires : tie.Need-put-breakers-requires
-put-breakers-requires c κs = (omega (arith, after-3 (c .before .before .before), c .before .before .before .before .before .before .before .before .before .before .before .before .before .before .before .before .before .pre .1), omega (arith, c .before .before .before .before .before .before .before .before .before .before .before .before .before .before .before .before .before .pre .0 .breakers))
+put-breakers-requires c κs = let s = c .before .before .before .before .before .before .before .before .before .before .before .before .before .before .before .before .before .before .before .before .before in (omega (arith, after-3 (c .before .before .before .before), s .pre .1), omega (arith, s .pre .0 .breakers))
 
 same-length : tie.Need-same-length
-same-length c = ap length (c .before .before .put-breakers .ensures) ∙ simp length-sets (after-3 (c .before .before .before .before .before .before))
+same-length c = ap length (c .before .before .put-breakers .ensures) ∙ simp length-sets (after-3 (c .before .before .before .before .before .before .before))
 
 returns : tie.Need-returns
 unfolding recordWith
 returns c =
-    let p3 = c .before .before .before .before .before .before in
+    let p3 = c .before .before .before .before .before .before .before in
     let p2 = p3 .before .before .before .before .before in
     let p1 = p2 .before .before .before .before .before in
-    let a = p1 .before .before .before .before .args in
-    c .before .before .put-breakers .ensures ∙ rw (p3 .put-numbers3 .ensures, p2 .put-numbers2 .ensures, p1 .put-numbers .ensures, from-first (a .y .now) (a .counts .stations), from-first (a .«station-currents-ka» .now) (a .counts .stations)) (laid-out (a .records .now) (a .at) (a .counts .stations) (a .counts .cables) (a .«time-ms») (a .«fault-current-ka») (of (a .y .now)) (of (a .«station-currents-ka» .now)) (λ k. of (a .y .now) (a .counts .stations + k)) (tab (a .counts .breakers) (λ i. closedNumber (getD (a .«breaker-states» .now) i false))))
+    let a = p1 .before .before .before .before .before .before .before .args in
+    let n = a .counts .stations in
+    let s = a .state in
+    c .before .before .put-breakers .ensures
+    ∙ rw (p3 .put-numbers3 .ensures, p2 .put-numbers2 .ensures, p1 .put-numbers .ensures, from-first (s .y) n, from-first (s .«station_currents_ka») n) (laid-out (a .records .now) (a .at) n (a .counts .cables) (s .«time_ms») (s .«fault_current_ka») (of (s .y)) (of (s .«station_currents_ka»)) (λ k. of (s .y) (n + k)) (tab (a .counts .breakers) (λ i. closedNumber (getD (s .«breaker_states») i false))))
 
 pub put-record-spec : {M : Type 1} → statement M
 put-record-spec =
@@ -91,8 +109,11 @@ put-record-spec =
     add-records
     mul-records-2
     slice-write-records-2
+    slice-aggregate-put-numbers
     put-numbers-requires
+    slice-aggregate-put-numbers-2
     put-numbers-requires-2
+    slice-aggregate-put-numbers-3
     put-numbers-requires-3
     add-put-breakers
     put-breakers-requires

@@ -5,8 +5,8 @@ use borrow.Author.Needs.{needs}
 use Rattle.event_step.proofs.switching.switching_step.Statement.{statement}
 use Rattle.event_step.proofs.switching.switching_step.Tie as tie
 
-nearest-u64-to-f64-requires : tie.Need-nearest-u64-to-f64-requires
-nearest-u64-to-f64-requires c κs = search needs
+step-time-ms-requires : tie.Need-step-time-ms-requires
+step-time-ms-requires c κs = search needs
 
 operate-requires : tie.Need-operate-requires
 operate-requires c κs = search needs
@@ -23,17 +23,17 @@ rk4-step-requires c κs = search needs
 returns : tie.Need-returns
 unfolding switchingPlanStep switchBody operatedState
 returns c =
-    let d = c .before .before .before in
-    let i = d .before in
+    let r = c .before in
+    let i = r .before .before .before in
     let o = i .before .before .before in
-    let q = o .before .before .before .before .before .before .before .before .before in
-    rw (c .before .rk4-step .ensures, d .no-drain .ensures, i .interrupt .ensures, o .operate .ensures, q .nearest-u64-to-f64 .ensures)
+    let q = o .before .before .before .before .before .before .before .before in
+    rw (r .rk4-step .ensures, r .before .before .no-drain .ensures, i .interrupt .ensures, o .operate .ensures, q .step-time-ms .ensures)
 
 pub switching-step-spec : {M : Type 1} → statement M
 switching-step-spec =
     tie.close
     (tie.spec
-    nearest-u64-to-f64-requires
+    step-time-ms-requires
     operate-requires
     interrupt-requires
     no-drain-requires

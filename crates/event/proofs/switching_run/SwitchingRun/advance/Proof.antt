@@ -7,7 +7,8 @@ use Rattle.rules.proofs.Claims.{accepted-claims}
 use Rattle.rules.proofs.Sizes.{size-claims}
 use Rattle.portions.proofs.Loop.{came-refused}
 use native.Mathlib.Omega.{arith}
-use Prim.Native.Nat.{_-_}
+use Rattle.timing.specs.Steps.{mostSteps}
+use Prim.Native.Nat.{_-_, _<_}
 use mathlib.Core.Path.{sym, _∙_}
 use borrow.Author.Needs.{needs}
 use Rattle.event.proofs.switching_run.SwitchingRun.advance.Statement.{statement}
@@ -19,6 +20,31 @@ Inv-loop self allowance records₀ g n size space counts plan v₀ made₀ steps
 
 abbrev μ-loop : tie.MeasureT-loop
 μ-loop self allowance records₀ g n size space counts plan v₀ made₀ steps₀ out₀ records v made steps out = allowance - steps
+
+-- the start of the function, from its loop
+abbrev start : tie.At-loop Inv-loop μ-loop → tie.Start Inv-loop μ-loop
+start l = l .before .before .before .before .before .before .before .before .before .before
+
+-- the loop's head, from the end of a turn
+abbrev head : tie.After-slice-known2 Inv-loop μ-loop → tie.At-loop Inv-loop μ-loop
+head c = c .before .before .before .before .before .before .before
+
+allowed : (c : tie.After-slice-known2 Inv-loop μ-loop) → head c .loop .steps < start (head c) .args .allowance
+allowed c =
+    let t = c .before .before .before .before .before in
+    more _ (head c .loop .inv) (t .before .is-recorded .result) (t .before .is-recorded .ensures) (t .if2 .left)
+
+one-more : (c : tie.After-slice-known2 Inv-loop μ-loop) → head c .loop .made < mostSteps
+one-more c =
+    let t = c .before .before .before .before .before in
+    omega (arith, more-steps _ (head c .loop .inv) (t .before .is-recorded .result) (t .before .is-recorded .ensures) (t .if2 .left), head c .loop .inv .fixed .few)
+
+loop-again : tie.Need-loop-again Inv-loop μ-loop
+loop-again c =
+    let s = c .before .before .before .before in
+    let t = s .before in
+    let p = c .before .before .put-if-recorded .ensures in
+    goes _ (head c .loop .inv) (t .before .is-recorded .result) (t .before .is-recorded .ensures) (t .if2 .left) _ (s .switching-step .ensures) _ (p .0) _ (p .1)
 
 switching-run-refused-requires : tie.Need-switching-run-refused-requires Inv-loop μ-loop
 switching-run-refused-requires c κs = search needs
@@ -45,11 +71,11 @@ loop-holds : tie.Need-loop-holds Inv-loop μ-loop
 loop-holds c =
     let p = c .before in
     let q = p .before .before .before .before .before in
-    let a = q .before .before .before .args in
+    let s = q .before .before .before .args .self in
     let h = sym (q .before .switching-run-refused .ensures) ∙ q .if1 .left in
-    let z = accepted (a .self) h in
-    inside (switchingKind (a .self .grid) (a .self .«breaker_id») (a .self .«open»)) _ _ _ _ _ _ _ _ (accepted-claims .switching (a .self .grid) z) (size-claims .switching (a .self .grid) z)
-    h (not-past (a .self) h) (p .before .before .before .total-steps .ensures) (p .before .before .record-length .ensures) (p .before .record-counts .ensures) (by-plan (a .self) h (p .switching-plan .result) (p .switching-plan .ensures))
+    let z = accepted s h in
+    inside (switchingKind (s .grid) (s .«breaker_id») (s .«open»)) _ _ _ _ _ _ _ _ (accepted-claims .switching (s .grid) z) (size-claims .switching (s .grid) z)
+    h (not-past s h) (p .before .before .before .total-steps .ensures) (p .before .before .record-length .ensures) (p .before .record-counts .ensures) (by-plan s h (p .switching-plan .result) (p .switching-plan .ensures))
 
 is-recorded-requires : tie.Need-is-recorded-requires Inv-loop μ-loop
 is-recorded-requires c κs = search needs
@@ -62,39 +88,34 @@ same-length c = c .before .before .before .loop .inv .going .same-length
 
 returns-2 : tie.Need-returns-2 Inv-loop μ-loop
 returns-2 c =
-    let l = c .before .before .before in
-    rw (c .reason .ensures) (returned (leaves _ (l .loop .inv) (c .before .before .is-recorded .result) (c .before .before .is-recorded .ensures) (c .before .if2 .taken)))
+    let r = c .before .before in
+    rw (c .reason .ensures) (returned (leaves _ (r .before .loop .inv) (r .is-recorded .result) (r .is-recorded .ensures) (c .before .if2 .taken)))
 
 switching-step-requires : tie.Need-switching-step-requires Inv-loop μ-loop
 switching-step-requires c κs = search needs
 
 mul-put-if-recorded : tie.Need-mul-put-if-recorded Inv-loop μ-loop
-mul-put-if-recorded c = let l = c .before .before .before .before .before .before .before .before in omega (arith, position _ (l .loop .inv), l .loop .inv .going .same-length, c .before .before .before .before .before .before .before .before .before .before .before .before .before .before .before .before .before .before .good .1 .1 .0)
+mul-put-if-recorded c =
+    let l = c .before .before .before .before in
+    omega (arith, position _ (l .loop .inv), l .loop .inv .going .same-length, start l .good .1 .1 .0)
 
 put-if-recorded-requires : tie.Need-put-if-recorded-requires Inv-loop μ-loop
-put-if-recorded-requires c κs = let l = c .before .before .before .before .before .before .before .before .before .before .before in (l .loop .inv .fixed .counted, fits _ (l .loop .inv) (c .before .before .before .before .before .before .before .before .before .before .is-recorded .result) (c .before .before .before .before .before .before .before .before .before .before .is-recorded .ensures) (c .before .before .before .before .before .before .before .before .before .if2 .left))
+put-if-recorded-requires c κs =
+    let t = c .before .before in
+    let r = t .before in
+    (r .before .loop .inv .fixed .counted, fits _ (r .before .loop .inv) (r .is-recorded .result) (r .is-recorded .ensures) (t .if2 .left))
 
 add-out : tie.Need-add-out Inv-loop μ-loop
-add-out c =
-    let l = c .before .before .before .before .before .before .before .before .before .before .before .before .before .before in
-    let p = c .before .before .put-if-recorded .ensures in
-    let x = goes _ (l .loop .inv) (c .before .before .before .before .before .before .before .before .before .before .before .before .before .is-recorded .result) (c .before .before .before .before .before .before .before .before .before .before .before .before .before .is-recorded .ensures) (c .before .before .before .before .before .before .before .before .before .before .before .before .if2 .left) _ (c .before .before .before .before .before .before .before .before .before .before .before .switching-step .ensures) _ (p .0) _ (p .1) in
-    omega (arith, out-ok _ x, x .going .same-length, c .before .before .before .before .before .before .before .before .before .before .before .before .before .before .before .before .before .before .before .before .before .before .before .before .good .1 .1 .0)
+add-out c = let x = loop-again c in omega (arith, out-ok _ x, x .going .same-length, start (head c) .good .1 .1 .0)
 
 add-made : tie.Need-add-made Inv-loop μ-loop
-add-made c = let l = c .before .before .before .before .before .before .before .before .before .before .before .before .before .before in omega (arith, more-steps _ (l .loop .inv) (c .before .before .before .before .before .before .before .before .before .before .before .before .before .is-recorded .result) (c .before .before .before .before .before .before .before .before .before .before .before .before .before .is-recorded .ensures) (c .before .before .before .before .before .before .before .before .before .before .before .before .if2 .left), l .loop .inv .fixed .few)
+add-made c = omega (arith, one-more c)
 
 add-steps : tie.Need-add-steps Inv-loop μ-loop
-add-steps c = let l = c .before .before .before .before .before .before .before .before .before .before .before .before .before .before in omega (arith, more _ (l .loop .inv) (c .before .before .before .before .before .before .before .before .before .before .before .before .before .is-recorded .result) (c .before .before .before .before .before .before .before .before .before .before .before .before .before .is-recorded .ensures) (c .before .before .before .before .before .before .before .before .before .before .before .before .if2 .left), c .before .before .before .before .before .before .before .before .before .before .before .before .before .before .before .before .before .before .before .before .before .before .before .before .fits .allowance)
+add-steps c = omega (arith, allowed c, start (head c) .fits .allowance)
 
 loop-less : tie.Need-loop-less Inv-loop μ-loop
-loop-less c = let l = c .before .before .before .before .before .before .before .before .before .before .before .before .before .before in omega (arith, more _ (l .loop .inv) (c .before .before .before .before .before .before .before .before .before .before .before .before .before .is-recorded .result) (c .before .before .before .before .before .before .before .before .before .before .before .before .before .is-recorded .ensures) (c .before .before .before .before .before .before .before .before .before .before .before .before .if2 .left))
-
-loop-again : tie.Need-loop-again Inv-loop μ-loop
-loop-again c =
-    let l = c .before .before .before .before .before .before .before .before .before .before .before .before .before .before in
-    let p = c .before .before .put-if-recorded .ensures in
-    goes _ (l .loop .inv) (c .before .before .before .before .before .before .before .before .before .before .before .before .before .is-recorded .result) (c .before .before .before .before .before .before .before .before .before .before .before .before .before .is-recorded .ensures) (c .before .before .before .before .before .before .before .before .before .before .before .before .if2 .left) _ (c .before .before .before .before .before .before .before .before .before .before .before .switching-step .ensures) _ (p .0) _ (p .1)
+loop-less c = omega (arith, allowed c)
 
 pub advance-spec : {M : Type 1} → statement M
 advance-spec =
