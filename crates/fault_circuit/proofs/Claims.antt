@@ -67,16 +67,15 @@ only-these e c current clearing t h = (rw (same-by e (c .response) (secondsSince
 
 -- ---- never positive
 
-module _ (g : DcSwitchingSimulator) (f : DcFaultEvent) (h : InRanges g f) (clearing t : Float) (C : isTime clearing ≡ true) (H : isTime t ≡ true) where
+module _ (g : DcSwitchingSimulator) (f : DcFaultEvent) (h : InRanges g f) (clearing t : Float) (H : isTime t ≡ true) where
   never : every neverPositive (exponents (circuitOf g f) clearing t) ≡ true
   unfolding circuitAt
   never =
       let p = parametersOf g f in
-      let moment : (x : Float) → isTime x ≡ true → UpTo 1000000000 x = in-range 1000000000 (omega arith) in
       let inception : UpTo 1000000000 (f .«inception_time_ms») = wider 100000 1000000000 _ (omega arith) (in-range 100000 (omega arith) _ (h .inception)) in
       both _ _
-      (never-after p (ranged g f h) (secondsSince clearing t) (seconds clearing t (moment clearing C) (moment t H)))
-      (never-during p (ranged g f h) (secondsSince (f .«inception_time_ms») t) (seconds (f .«inception_time_ms») t inception (moment t H)))
+      (never-after p (ranged g f h) clearing t)
+      (never-during p (ranged g f h) (secondsSince (f .«inception_time_ms») t) (seconds (f .«inception_time_ms») t inception (in-range 1000000000 (omega arith) t H)))
 
 in-unit : (x : Float) → neverPositive x ≡ true → inUnit x ≡ true
 in-unit x h =
@@ -86,8 +85,8 @@ in-unit x h =
 pub in-ranges-claims : InRangesClaims
 in-ranges-claims = record { of-fault = of-fault; of-sweep = of-sweep; never-positive = never; step-time = step-time }
 
-at-steps : (g : DcSwitchingSimulator) (f : DcFaultEvent) → faultRefusal g f ≡ 0 → (j k : ℕ) → j < stepsOf g → k < stepsOf g → every neverPositive (exponents (circuitOf g f) (timeOfStep g j) (timeOfStep g k)) ≡ true
-at-steps g f h j k J K = let s = of-fault g f h in never g f s _ _ (step-time g f s j J) (step-time g f s k K)
+at-steps : (g : DcSwitchingSimulator) (f : DcFaultEvent) → faultRefusal g f ≡ 0 → (clearing : Float) (k : ℕ) → k < stepsOf g → every neverPositive (exponents (circuitOf g f) clearing (timeOfStep g k)) ≡ true
+at-steps g f h clearing k K = let s = of-fault g f h in never g f s clearing _ (step-time g f s k K)
 
 all-in-unit : (xs : List Float) → every neverPositive xs ≡ true → every inUnit xs ≡ true
 all-in-unit = every-of neverPositive inUnit in-unit
@@ -97,7 +96,7 @@ exponent-claims =
     record {
       only-these = only-these;
       never-positive = λ g f h. never g f (of-fault g f h);
-      in-unit = λ g f h c t C H. all-in-unit (exponents (circuitOf g f) c t) (never g f (of-fault g f h) c t C H);
+      in-unit = λ g f h c t H. all-in-unit (exponents (circuitOf g f) c t) (never g f (of-fault g f h) c t H);
       at-steps = at-steps;
-      unit-at-steps = λ g f h j k J K. all-in-unit (exponents (circuitOf g f) _ _) (at-steps g f h j k J K);
+      unit-at-steps = λ g f h c k K. all-in-unit (exponents (circuitOf g f) c _) (at-steps g f h c k K);
     }

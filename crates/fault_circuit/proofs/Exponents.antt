@@ -5,7 +5,7 @@ use mathlib.Core.Path.{_≡_, refl}
 use mathlib.Core.Bool.{true, false, _&&_}
 use mathlib.Core.List.{[], _∷_}
 use lib.Dec.{T}
-use lib.Ieee.{Float, binary64, ofBits, ofInt, round, neg, lt, le, eq}
+use lib.Ieee.{Float, binary64, ofBits, ofInt, round, neg, lt, le, eq, isNan}
 use lib.Ieee.Bits.{is-true}
 use lib.Ieee.Fits.{div-fits}
 use Rattle.lists.specs.Scans.{every}
@@ -16,13 +16,15 @@ use Rattle.float64.specs.Arithmetic.{_⊖_, _⊗_, _⊘_}
 use Rattle.float64.specs.Choice.{maxOf, absOf}
 use Rattle.float64.proofs.Fields.{no-nan}
 use Rattle.float64.proofs.Order.{le-of-not-lt}
-use Rattle.float64.proofs.Range.{UpTo, from-range, neg-neg, times, minus-raised, never-times, never-over}
+use Rattle.float64.proofs.Range.{UpTo, from-range, neg-neg, times, minus-raised, never-times}
+use Rattle.float64.proofs.Interval.{max-at-least}
 use Rattle.fault_circuit.specs.declared.parameters.RlcParameters.{RlcParameters}
 use Rattle.fault_circuit.specs.Circuit.{alpha, omega0Sq, underdamped, omegaD, s1, s2, underdampedResponse, overdampedResponse, responseOf, decayTau}
 use Rattle.fault_circuit.specs.Current.{secondsSince, damping, along, duringFault}
 use Rattle.fault_circuit.specs.Claims.{neverPositive}
 use Rattle.fault_circuit.proofs.Ranges.{Ranged}
 use Rattle.fault_circuit.proofs.Roots.{alpha-in, omega0-positive, tau-positive, a-up-to, square-positive, s1-below, s2-below}
+use Rattle.fault_circuit.proofs.Signs.{times-above, minus-over-above}
 
 pub seconds : (moment t : Float) → UpTo 1000000000 moment → UpTo 1000000000 t → UpTo 1000000000 (secondsSince moment t)
 unfolding ofBits ofInt round le lt eq
@@ -61,5 +63,12 @@ module _ (p : RlcParameters) (P : Ranged p) (t : Float) (H : UpTo 1000000000 t) 
       (λ l. rw l (pair (along (s1 (alpha p) (omega0Sq p)) t) (along (s2 (alpha p) (omega0Sq p)) t) (first o) (second o)))
       (λ l. rw l (alone (damping (alpha p) t) damped))))
 
-  pub never-after : neverPositive (neg t ⊘ decayTau p) ≡ true
-  never-after = is-true (le (neg t ⊘ decayTau p) nought) (never-over 1000000000 t (decayTau p) H (tau-positive p P))
+-- of any two doubles, NaN and infinities too
+seconds-from-zero : (moment t : Float) → T (le nought (secondsSince moment t))
+unfolding ofBits isNan
+seconds-from-zero moment t = times-above milli (maxOf (t ⊖ moment) nought) tt (max-at-least (t ⊖ moment) nought tt)
+
+pub never-after : (p : RlcParameters) → Ranged p → (clearing t : Float) → neverPositive (neg (secondsSince clearing t) ⊘ decayTau p) ≡ true
+never-after p P clearing t =
+    let s = secondsSince clearing t in
+    is-true (le (neg s ⊘ decayTau p) nought) (minus-over-above (decayTau p) s (tau-positive p P) (seconds-from-zero clearing t))

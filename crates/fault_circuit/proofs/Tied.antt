@@ -36,11 +36,11 @@ module _ (κs : Lfts 0) (a : ArgsD circuit-contract.signature κs) (r : ResD cir
   circuit-any = tt
 
   module _ (h : circuit-reads.Learnt κs a r e) (k : faultRefusal (a .0) (a .1 .0) ≡ 0) where
-    pub circuit-never-positive : (clearing t : Float) → isTime clearing ≡ true → isTime t ≡ true → every neverPositive (exponents r clearing t) ≡ true
-    circuit-never-positive clearing t C H = rw h (exponent-claims .never-positive (a .0) (a .1 .0) k clearing t C H)
+    pub circuit-never-positive : (clearing t : Float) → isTime t ≡ true → every neverPositive (exponents r clearing t) ≡ true
+    circuit-never-positive clearing t H = rw h (exponent-claims .never-positive (a .0) (a .1 .0) k clearing t H)
 
-    pub circuit-at-steps : (i j : ℕ) → i < stepsOf (a .0) → j < stepsOf (a .0) → every inUnit (exponents r (timeOfStep (a .0) i) (timeOfStep (a .0) j)) ≡ true
-    circuit-at-steps i j I J = rw h (exponent-claims .unit-at-steps (a .0) (a .1 .0) k i j I J)
+    pub circuit-at-steps : (clearing : Float) (i : ℕ) → i < stepsOf (a .0) → every inUnit (exponents r clearing (timeOfStep (a .0) i)) ≡ true
+    circuit-at-steps clearing i I = rw h (exponent-claims .unit-at-steps (a .0) (a .1 .0) k clearing i I)
 
   -- the current that `fault_current_ka` finds with that circuit is 000's with the parameters that `fault_rlc_params` returns
   module _ (p : ArgsD parameters-contract.signature κs) (q : ResD parameters-contract.signature κs) (d : AtExit (endedOf 0 parameters-kinds.ps parameters-kinds.r) κs)

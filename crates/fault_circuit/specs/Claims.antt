@@ -47,12 +47,12 @@ pub record ExponentClaims : Type 0 where
   pub only-these
       : (e : Float → Float) (c : FaultCircuit) (current clearing t : Float) → OneOn e (exponents c clearing t)
       → (currentBy e c t ≡ currentOf c t) × (decayedBy e c current clearing t ≡ decayedOf c current clearing t)
-  -- "For accepted input t is never positive, and 0 ≤ E ≤ 1": at any time, the fault cleared at any time
-  pub never-positive : (g : DcSwitchingSimulator) (f : DcFaultEvent) → faultRefusal g f ≡ 0 → (clearing t : Float) → isTime clearing ≡ true → isTime t ≡ true → every neverPositive (exponents (circuitOf g f) clearing t) ≡ true
-  pub in-unit : (g : DcSwitchingSimulator) (f : DcFaultEvent) → faultRefusal g f ≡ 0 → (clearing t : Float) → isTime clearing ≡ true → isTime t ≡ true → every inUnit (exponents (circuitOf g f) clearing t) ≡ true
-  -- and so at every step of an accepted run, the fault cleared at any step
-  pub at-steps : (g : DcSwitchingSimulator) (f : DcFaultEvent) → faultRefusal g f ≡ 0 → (j k : ℕ) → j < stepsOf g → k < stepsOf g → every neverPositive (exponents (circuitOf g f) (timeOfStep g j) (timeOfStep g k)) ≡ true
-  pub unit-at-steps : (g : DcSwitchingSimulator) (f : DcFaultEvent) → faultRefusal g f ≡ 0 → (j k : ℕ) → j < stepsOf g → k < stepsOf g → every inUnit (exponents (circuitOf g f) (timeOfStep g j) (timeOfStep g k)) ≡ true
+  -- "For accepted input t is never positive, and 0 ≤ E ≤ 1": at any time, whatever double stands for the clearing time, a NaN and infinities too
+  pub never-positive : (g : DcSwitchingSimulator) (f : DcFaultEvent) → faultRefusal g f ≡ 0 → (clearing t : Float) → isTime t ≡ true → every neverPositive (exponents (circuitOf g f) clearing t) ≡ true
+  pub in-unit : (g : DcSwitchingSimulator) (f : DcFaultEvent) → faultRefusal g f ≡ 0 → (clearing t : Float) → isTime t ≡ true → every inUnit (exponents (circuitOf g f) clearing t) ≡ true
+  -- and so at every step of an accepted run, also of one put together by hand
+  pub at-steps : (g : DcSwitchingSimulator) (f : DcFaultEvent) → faultRefusal g f ≡ 0 → (clearing : Float) (k : ℕ) → k < stepsOf g → every neverPositive (exponents (circuitOf g f) clearing (timeOfStep g k)) ≡ true
+  pub unit-at-steps : (g : DcSwitchingSimulator) (f : DcFaultEvent) → faultRefusal g f ≡ 0 → (clearing : Float) (k : ℕ) → k < stepsOf g → every inUnit (exponents (circuitOf g f) clearing (timeOfStep g k)) ≡ true
 
 -- what of acceptance this rests on
 pub record InRanges (g : DcSwitchingSimulator) (f : DcFaultEvent) : Type 0 where
@@ -71,5 +71,5 @@ pub record InRangesClaims : Type 0 where
   pub of-fault : (g : DcSwitchingSimulator) (f : DcFaultEvent) → faultRefusal g f ≡ 0 → InRanges g f
   -- the faults of an accepted sweep too
   pub of-sweep : (g : DcSwitchingSimulator) (o : SweepOrder) (f : DcFaultEvent) → sweepRefusal g o ≡ 0 → realIn range.faultFraction (f .«location_fraction») ≡ true → f .«inception_time_ms» ≡ o .«inception_time_ms» → InRanges g f
-  pub never-positive : (g : DcSwitchingSimulator) (f : DcFaultEvent) → InRanges g f → (clearing t : Float) → isTime clearing ≡ true → isTime t ≡ true → every neverPositive (exponents (circuitOf g f) clearing t) ≡ true
+  pub never-positive : (g : DcSwitchingSimulator) (f : DcFaultEvent) → InRanges g f → (clearing t : Float) → isTime t ≡ true → every neverPositive (exponents (circuitOf g f) clearing t) ≡ true
   pub step-time : (g : DcSwitchingSimulator) (f : DcFaultEvent) → InRanges g f → (k : ℕ) → k < stepsOf g → isTime (timeOfStep g k) ≡ true
