@@ -14,6 +14,7 @@ use Rattle.grid.specs.declared.parts.DcFaultType.{DcFaultType}
 use Rattle.grid.specs.declared.parts.DcFaultType.the-variants.{PoleToGround, PoleToPole, ConverterInternal}
 use Rattle.grid.specs.declared.parts.DcFaultEvent.{DcFaultEvent}
 use Rattle.grid.specs.declared.simulator.DcSwitchingSimulator.{DcSwitchingSimulator}
+use Rattle.fault_circuit.specs.declared.parameters.RlcParameters.{RlcParameters}
 use Rattle.fault_circuit.specs.declared.circuit.FaultCircuit.{FaultCircuit}
 use Rattle.fault_circuit.specs.declared.circuit.Response.the-variants.{Underdamped, Overdamped, Critical, Still}
 use Rattle.fault_circuit.specs.Parameters.{parametersAt}
@@ -89,7 +90,28 @@ critical-is : (critical .response ≡ Critical (decimal 320000 1) (decimal 1000 
 unfolding critical Runs grid station fault double circuitAt parametersAt responseOf underdampedResponse overdampedResponse typeFactor currentBy decayedBy amperesBy E terms squared S series reducedAngle wholePart rootOf floorRoot nearestRoot size clampOf maxOf absOf isNan lt ofBits ofInt round neg add sub mul div
 critical-is = (refl, (refl, refl, refl, refl, refl))
 
+-- 320 kV, with mH, µF and Ω
+parameters : (l c r : Float) → RlcParameters
+parameters l c r = record { «l_total_mh» = l; «c_total_uf» = c; «r_total_ohm» = r; «r_fault_ohm» = nought; «v_dc_kv» = decimal 320 1 }
+
+-- 1 H, 1 F and the double after 2 Ω: the roots are 4.2e-8 apart, and two. 500 ms after inception a single one would give 97.044906 kA, and not 97.044726 kA.
+nearly-critical : FaultCircuit
+nearly-critical = circuitAt (parameters (decimal 1000 1) (decimal (10 ^ 6) 1) (double 0x4000000000000001)) PoleToPole one
+
+nearly-critical-is
+    : (nearly-critical .response ≡ Overdamped (double 0x429b9f115b8120fe) (double 0xbfeffffff4afb0cf) (double 0xbff0000005a8279b))
+    × (currentOf nearly-critical (decimal 501 1) ≡ double 0x405842dccaa4f45c)
+unfolding nearly-critical parameters double circuitAt responseOf underdampedResponse overdampedResponse typeFactor currentBy amperesBy E terms squared rootOf floorRoot nearestRoot size maxOf absOf isNan lt ofBits ofInt round neg add sub mul div
+nearly-critical-is = (refl, refl)
+
+-- beside 1e-12, with 1024 H and 2 ^ 20 F, which no accepted grid has: of the double after 0.0625 Ω the roots are 1.29e-12 apart, and two; of the second double after 2 ^ 20 F they are 0.91e-12 apart, and one
+beside-least-is
+    : (responseOf (parameters (decimal 1024000 1) (double 0x426e848000000000) (double 0x3fb0000000000001)) ≡ Overdamped (double 0x42eb9f115b8120fe) (double 0xbefffffff4afb0cf) (double 0xbf00000005a8279b))
+    × (responseOf (parameters (decimal 1024000 1) (double 0x426e848000000002) (decimal 625 10000)) ≡ Critical (decimal 3125 10) (double 0x3f00000000000000))
+unfolding parameters double responseOf underdampedResponse overdampedResponse rootOf floorRoot nearestRoot size maxOf absOf isNan lt ofBits round neg add sub mul div
+beside-least-is = (refl, refl)
+
 -- 10 ^ 12 H and 10 ^ 13 F, which no accepted grid has
-still-is : responseOf record { «l_total_mh» = decimal (10 ^ 15) 1; «c_total_uf» = decimal (10 ^ 19) 1; «r_total_ohm» = decimal 1 100; «r_fault_ohm» = nought; «v_dc_kv» = decimal 320 1 } ≡ Still
-unfolding responseOf underdampedResponse overdampedResponse rootOf floorRoot nearestRoot size maxOf absOf isNan lt ofBits round neg add sub mul div
+still-is : responseOf (parameters (decimal (10 ^ 15) 1) (decimal (10 ^ 19) 1) (decimal 1 100)) ≡ Still
+unfolding parameters responseOf underdampedResponse overdampedResponse rootOf floorRoot nearestRoot size maxOf absOf isNan lt ofBits round neg add sub mul div
 still-is = refl
