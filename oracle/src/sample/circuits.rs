@@ -9,6 +9,7 @@ use crate::rules::{ARM_INDUCTANCE, LAST_NUMBER, LENGTH, PER_KM, RESISTANCE};
 pub fn circuits(plans: &mut Vec<Plan>) {
     times(plans);
     dampings(plans);
+    near_roots(plans);
     faults(plans);
     decays(plans);
     full(plans);
@@ -82,6 +83,29 @@ fn dampings(plans: &mut Vec<Plan>) {
     plan.cables[0][6] = LENGTH.high.to_bits();
     plan.rest[0] = 1e5f64.to_bits();
     plans.push(plan);
+}
+
+/// Two roots so near each other that they are nearly one: of 1 H and 1 F with the double after 2 ohms, 500 ms after the inception; and of
+/// the most that a station and its cable can have, with the least ohms whose current does not swing. They are 4.2e-8 and 8.2e-11 apart.
+fn near_roots(plans: &mut Vec<Plan>) {
+    for (ohms, mh, km, arm_mh, t) in [
+        (0.002f64.next_up(), 0.0, 1000.0, 999.0, 505.0),
+        (
+            0.006324871856409424,
+            PER_KM.high,
+            LENGTH.high,
+            ARM_INDUCTANCE.high,
+            1e5,
+        ),
+    ] {
+        let mut plan = circuit(ohms, PER_KM.high, arm_mh);
+        plan.stations[0][3] = 320f64.to_bits();
+        plan.cables[0][4] = f64::to_bits(mh);
+        plan.cables[0][6] = f64::to_bits(km);
+        plan.event[3] = 0;
+        plan.rest[0] = f64::to_bits(t);
+        plans.push(plan);
+    }
 }
 
 /// Every type, fractions and resistances at the ends of their ranges, cables and ends past the count.
@@ -166,4 +190,33 @@ fn full(plans: &mut Vec<Plan>) {
     plan.event[1] = 63;
     plan.cables[63][1] = 31;
     plans.push(plan);
+}
+
+#[cfg(test)]
+mod tests {
+    use super::super::answered;
+    use super::*;
+    use crate::dc_switching::{damping, damping_squares, Damping};
+    use crate::grids;
+
+    /// The Rust takes them for two, though they are less than 1e-7 and 1e-10 apart.
+    #[test]
+    fn nearly_one_root() {
+        let mut plans = Vec::new();
+        near_roots(&mut plans);
+        for (plan, most) in plans.iter().zip([1e-7, 1e-10]) {
+            let mut numbers = plan.numbers().into_iter().skip(1);
+            let grid = grids::grid(&mut numbers).unwrap();
+            let fault = grids::fault(&mut numbers).unwrap();
+            assert_eq!(damping(&grid.simulator, &fault), Damping::Over);
+            let [alpha, omega] = damping_squares(&grid.simulator, &fault);
+            assert!(2.0 * (alpha - omega).sqrt() < most);
+        }
+        // L in mH, C in µF, R and the fault's own in ohms, V in kV; the current, for which one root would give 97.044906 kA.
+        let expected = [1000.0, 1e6, 2f64.next_up(), 0.0, 320.0, 97.04472604855385];
+        assert_eq!(
+            answered(&plans[0].numbers())[1..7],
+            expected.map(f64::to_bits)
+        );
+    }
 }

@@ -18,6 +18,7 @@ pub fn runs(plans: &mut Vec<Plan>) {
     faults(plans);
     breakers(plans);
     moments(plans);
+    since_inception(plans);
     recoveries(plans);
     nearly_recovered(plans);
     roundings(plans);
@@ -147,6 +148,19 @@ fn moments(plans: &mut Vec<Plan>) {
             plans.push(plan);
         }
     }
+}
+
+/// Two stations of 100 kV, a cable of 1 ohm and nothing else, the fault from 0.8 ms on and a breaker of 0.2 ms. At 1 ms it is not
+/// cleared, since 1 - 0.8 is less than 0.2, though 0.8 + 0.2 is 1.
+fn since_inception(plans: &mut Vec<Plan>) {
+    let mut plan = with_calls(Plan::small(FAULT_RUN), WHOLE);
+    plan.times = [1000f64, 4.0].map(f64::to_bits);
+    plan.stations = vec![plan.stations[0]; 2];
+    plan.counts[0] = 2;
+    plan.cables[0] = cable(0, 1, 1.0, 0.0, 0.0, 1.0);
+    plan.breakers[0][3] = 0.2f64.to_bits();
+    plan.event[4] = 0.8f64.to_bits();
+    plans.push(plan);
 }
 
 /// Voltages that fall in some steps, and come back by a thousandth of the rated ones in each.
@@ -398,6 +412,16 @@ fn kept(plans: &mut Vec<Plan>) {
 #[cfg(test)]
 mod tests {
     use super::*;
+
+    #[test]
+    fn cleared_by_the_difference() {
+        let mut plans = Vec::new();
+        since_inception(&mut plans);
+        // Refusal, stop, steps and records; four records of eight numbers, peak, clearing time.
+        let answer = answered(&plans[0].numbers());
+        assert_eq!(answer[..4], [0, 0, 4, 4]);
+        assert_eq!(double(answer[37]), 2.0);
+    }
 
     /// The voltage is 0.9 of the rated one to the last bit, and the next one below it; the first has recovered in the step after it.
     #[test]
