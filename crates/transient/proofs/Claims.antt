@@ -24,7 +24,7 @@ use Rattle.network.specs.Network.{stationCount, cableCount, end, networkOf}
 use Rattle.transient.specs.Derivatives.{net, derivative, derivatives}
 use Rattle.transient.specs.Rk4.{ahead, blended, rk4, raised, newState, stepBy, stationsIn, cablesIn, slopes, rk4Step}
 use Rattle.transient.specs.OfGrid.{fromOf, toOf, resistanceOf, inductanceOf, capacitanceOf, gridDerivatives, gridStep}
-use Rattle.transient.specs.Claims.{NetworkClaims, StepClaims, DrainClaims}
+use Rattle.transient.specs.Claims.{classicalAt, NetworkClaims, StepClaims, DrainClaims}
 
 -- ---- the tables hold the grid
 
@@ -123,6 +123,10 @@ network-claims = record { rates = λ g d y n m. rates-are g n m d y; step = λ g
 
 -- ---- the step
 
+classical : (size : ℕ) (f : List Float → List Float) (dt : Float) (y : List Float) (i : ℕ) → i < size → size ≤ 96 → of (rk4 size f dt y) i ≡ classicalAt size f dt y i
+unfolding rk4 blended
+classical size f dt y i l h = getD-padded 96 size _ nought nan i l h
+
 module _ (w : Network) (d : Drain) (s : DcTransientState) (dt : Float) where
   -- the step's numbers before the voltages are raised
   numbers : List Float
@@ -136,19 +140,25 @@ module _ (w : Network) (d : Drain) (s : DcTransientState) (dt : Float) where
   unfolding isNan ofBits
   not-below i l = rw (new-is i (omega arith), lt-ltb i (stationsIn w) l) (is-true (le nought (maxOf (of numbers i) nought)) (max-at-least (of numbers i) nought tt))
 
-  own-current : (k : ℕ) → k < cablesIn w → of (rk4Step w d s dt .y) (stationsIn w + k) ≡ of (rk4 (stationsIn w + cablesIn w) (slopes w d) dt (s .y)) (stationsIn w + k)
+  classical-value : (i : ℕ) → i < stationsIn w + cablesIn w → of numbers i ≡ classicalAt (stationsIn w + cablesIn w) (slopes w d) dt (s .y) i
   unfolding numbers
-  own-current k l = rw (new-is (stationsIn w + k) (omega arith), le-ltb (stationsIn w + k) (stationsIn w) (omega arith))
+  classical-value i l = classical (stationsIn w + cablesIn w) (slopes w d) dt (s .y) i l (omega arith)
+
+  new-voltage : (i : ℕ) → i < stationsIn w → of (rk4Step w d s dt .y) i ≡ maxOf (classicalAt (stationsIn w + cablesIn w) (slopes w d) dt (s .y) i) nought
+  new-voltage i l = rw (new-is i (omega arith), lt-ltb i (stationsIn w) l, classical-value i (omega arith))
+
+  own-current : (k : ℕ) → k < cablesIn w → of (rk4Step w d s dt .y) (stationsIn w + k) ≡ classicalAt (stationsIn w + cablesIn w) (slopes w d) dt (s .y) (stationsIn w + k)
+  own-current k l = rw (new-is (stationsIn w + k) (omega arith), le-ltb (stationsIn w + k) (stationsIn w) (omega arith), classical-value (stationsIn w + k) (omega arith))
 
   past-zero : (i : ℕ) → stationsIn w + cablesIn w ≤ i → i < 96 → of (rk4Step w d s dt .y) i ≡ nought
   unfolding stepBy newState raised
   past-zero i l h = getD-rest 96 (stationsIn w + cablesIn w) _ nought nan i l h
 
 pub step-claims : StepClaims
-unfolding rk4 blended
 step-claims =
     record {
-      classical = λ size f dt y i l h. getD-padded 96 size _ nought nan i l h;
+      classical = classical;
+      new-voltages = λ w d s dt i l. new-voltage w d s dt i l;
       voltages = λ w d s dt i l. not-below w d s dt i l;
       cable-currents = λ w d s dt k l. own-current w d s dt k l;
       past = λ w d s dt i l h. past-zero w d s dt i l h;

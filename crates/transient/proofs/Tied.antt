@@ -12,8 +12,10 @@ use Rattle.float64.specs.Constants.{nought}
 use Rattle.float64.specs.Arithmetic.{of}
 use Rattle.network.specs.declared.network.Drain.{Drain}
 use Rattle.transient.specs.declared.state.DcTransientState.{DcTransientState}
-use Rattle.transient.specs.Rk4.{stationsIn, cablesIn, slopes, rk4, rk4Step}
+use Rattle.transient.specs.Rk4.{stationsIn, cablesIn, slopes, rk4Step}
 use Rattle.transient.specs.OfGrid.{gridStep}
+use Rattle.transient.specs.Claims.{classicalAt}
+use Rattle.float64.specs.Choice.{maxOf}
 use Rattle.transient.proofs.Claims.{network-claims, step-claims}
 use Rattle.network.proofs.network_of as network-contract
 use Rattle.network.proofs.network_of.Kinds as network-kinds
@@ -37,7 +39,11 @@ module _ (κs : Lfts 0) (a : ArgsD step-contract.signature κs) (r : ResD step-c
   pub step-voltages : step-reads.Learnt κs a r e → (i : ℕ) → i < stationsIn (a .0) → le nought (of (r .y) i) ≡ true
   step-voltages h i l = rw h (step-claims .voltages (a .0) (a .1 .0) (a .1 .1 .0) (a .1 .1 .1 .0) i l)
 
+  pub step-new-voltages : step-reads.Learnt κs a r e → (i : ℕ) → i < stationsIn (a .0)
+      → of (r .y) i ≡ maxOf (classicalAt (stationsIn (a .0) + cablesIn (a .0)) (slopes (a .0) (a .1 .0)) (a .1 .1 .1 .0) (a .1 .1 .0 .y) i) nought
+  step-new-voltages h i l = rw h (step-claims .new-voltages (a .0) (a .1 .0) (a .1 .1 .0) (a .1 .1 .1 .0) i l)
+
   pub step-currents : step-reads.Learnt κs a r e → (k : ℕ) → k < cablesIn (a .0)
       → let n = stationsIn (a .0) in
-      of (r .y) (n + k) ≡ of (rk4 (n + cablesIn (a .0)) (slopes (a .0) (a .1 .0)) (a .1 .1 .1 .0) (a .1 .1 .0 .y)) (n + k)
+      of (r .y) (n + k) ≡ classicalAt (n + cablesIn (a .0)) (slopes (a .0) (a .1 .0)) (a .1 .1 .1 .0) (a .1 .1 .0 .y) (n + k)
   step-currents h k l = rw h (step-claims .cable-currents (a .0) (a .1 .0) (a .1 .1 .0) (a .1 .1 .1 .0) k l)
