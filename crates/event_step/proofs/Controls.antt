@@ -14,12 +14,12 @@ use Rattle.float64.specs.Root.{rootOf, floorRoot, nearestRoot}
 use Rattle.float64.specs.Exponential.{E, terms, squared}
 use Rattle.float64.specs.Wave.{S, series, reducedAngle, wholePart}
 use Rattle.grid.specs.declared.parts.ConverterTopology.{ConverterTopology}
-use Rattle.grid.specs.declared.parts.ConverterTopology.the-variants.{TwoLevelVsc, Mmc}
+use Rattle.grid.specs.declared.parts.ConverterTopology.the-variants.{Lcc, TwoLevelVsc, Mmc}
 use Rattle.grid.specs.declared.parts.ConverterStation.{ConverterStation}
 use Rattle.grid.specs.declared.parts.DcCable.{DcCable}
 use Rattle.grid.specs.declared.parts.DcBreaker.{DcBreaker}
-use Rattle.grid.specs.declared.parts.DcBreakerType.the-variants.{SolidState}
-use Rattle.grid.specs.declared.parts.DcFaultType.the-variants.{ConverterInternal}
+use Rattle.grid.specs.declared.parts.DcBreakerType.the-variants.{Mechanical, SolidState}
+use Rattle.grid.specs.declared.parts.DcFaultType.the-variants.{PoleToGround, ConverterInternal}
 use Rattle.grid.specs.declared.parts.DcFaultEvent.{DcFaultEvent}
 use Rattle.grid.specs.declared.simulator.DcSwitchingSimulator.{DcSwitchingSimulator}
 use Rattle.timing.specs.Breakers.{clearingTimeOf, fastestOf}
@@ -325,3 +325,28 @@ switching-run-is
     × (s .«breaker_states» ≡ replicate 32 false)
 unfolding double station cable breaker two switchingAfter beforeSwitching switchingBody switchBody operatedState ownCapacitance joinedCapacitance derivatives ahead blended rk4 raised newState stepBy tab blank over padded maxOf isNan lt le eq ofBits ofInt round neg add sub mul div
 switching-run-is = (refl, refl)
+
+-- A fault is cleared by the time since its inception: steps of 1 ms, inception at 0.8 ms, a breaker of 0.2 ms. 1 - 0.8 is less than 0.2 in doubles, so it is cleared at 2 ms; 0.2 + 0.8 is 1.
+since : DcSwitchingSimulator
+since =
+    record {
+      stations = station Lcc 0 100 0 0 ∷ station Lcc 1 100 0 0 ∷ [];
+      cables = record { id = 0; «from_station» = 0; «to_station» = 1; «r_per_km» = one; «l_per_km» = nought; «c_per_km» = nought; «length_km» = one } ∷ [];
+      breakers = record { id = 0; «station_id» = 0; «breaker_type» = Mechanical (decimal 2 10); «max_breaking_current_ka» = nought; «energy_absorption_mj» = nought } ∷ [];
+      «n_stations» = 2;
+      «n_cables» = 1;
+      «n_breakers» = 1;
+      «dt_us» = decimal 1000 1;
+      «duration_ms» = decimal 4 1;
+    }
+
+at-0·8 : DcFaultEvent
+at-0·8 = record { «fault_type» = PoleToGround; «location_cable_id» = 0; «location_fraction» = nought; «fault_resistance» = nought; «inception_time_ms» = decimal 8 10 }
+
+cleared-since-inception
+    : (faultAfter since at-0·8 2 .«fault_cleared» ≡ false)
+    × (faultAfter since at-0·8 2 .«fault_active» ≡ true)
+    × (faultAfter since at-0·8 3 .«fault_cleared» ≡ true)
+    × (faultAfter since at-0·8 4 .«clearing_time_ms» ≡ decimal 2 1)
+unfolding station since at-0·8 faultAfter beforeLoop faultBody body whileFaulted afterClearing beforeInception clearingTimeOf fastestOf maxOf minOf isNan lt le eq ofBits ofInt round neg add sub mul div
+cleared-since-inception = (refl, refl, refl, refl)
