@@ -1,6 +1,7 @@
 -- The line-commutated converter of document 01.1, a line of 000's `lcc_operating_point` to a definition.
 use lib.Ieee.{Float}
-use Rattle.float64.specs.Constants.{nought, one, minusOne, two, pi, sqrt2}
+use Rattle.float64.specs.Constants.{nought, one, minusOne, two, pi}
+use Rattle.square_root.specs.Constants.{sqrt2}
 use Rattle.float64.specs.Arithmetic.{_⊕_, _⊖_, _⊗_, _⊘_, squared}
 use Rattle.float64.specs.Choice.{maxOf, minOf, absOf, clampOf}
 use Rattle.float64.specs.Angle.{radiansOf}

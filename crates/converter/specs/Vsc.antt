@@ -5,7 +5,7 @@ use lib.Ieee.{Float, binary64, ofInt, lt}
 use Rattle.float64.specs.Constants.{nought, one, k180, pi, half}
 use Rattle.float64.specs.Arithmetic.{_⊕_, _⊗_, _⊘_}
 use Rattle.float64.specs.Choice.{maxOf, absOf, clampOf}
-use Rattle.float64.specs.Root.{rootOf}
+use Rattle.square_root.specs.Root.{rootOf}
 use Rattle.grid.specs.Parts.{submodulesOf}
 use Rattle.grid.specs.declared.parts.ConverterTopology.{ConverterTopology}
 use Rattle.grid.specs.declared.parts.ConverterTopology.the-variants.{Lcc, TwoLevelVsc, Mmc, Hybrid}

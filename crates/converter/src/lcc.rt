@@ -7,7 +7,6 @@ use crate::answer::PointAnswer;
 use crate::answer::answered;
 use crate::floor::LEAST;
 use float64::PI;
-use float64::SQRT_2;
 use float64::abs;
 use float64::clamp;
 use float64::cos;
@@ -15,6 +14,7 @@ use float64::max;
 use float64::min;
 use float64::to_radians;
 use grid::ConverterStation;
+use square_root::SQRT_2;
 
 // DcSwitchingSimulator::lcc_operating_point
 pub fn lcc_operating_point(station: ConverterStation, i_dc_ka: f64) -> PointAnswer

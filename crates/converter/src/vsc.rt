@@ -10,10 +10,10 @@ use float64::PI;
 use float64::abs;
 use float64::clamp;
 use float64::max;
-use float64::sqrt;
 use grid::ConverterStation;
 use grid::ConverterTopology;
 use grid::counted_submodules;
+use square_root::sqrt;
 use std::num::nearest_u64_to_f64;
 
 // The root of 1.5.

@@ -10,7 +10,7 @@ use Rattle.lists.specs.Tables.{tab, blank, over, padded}
 use Rattle.float64.specs.Constants.{nought, one, half, decimal}
 use Rattle.float64.specs.Arithmetic.{_⊕_, _⊖_, _⊗_, of}
 use Rattle.float64.specs.Choice.{maxOf, minOf, absOf, clampOf}
-use Rattle.float64.specs.Root.{rootOf, floorRoot, nearestRoot}
+use Rattle.square_root.specs.Root.{rootOf, floorRoot, nearestRoot}
 use Rattle.float64.specs.Exponential.{E, terms, squared}
 use Rattle.float64.specs.Wave.{S, series, reducedAngle, wholePart}
 use Rattle.grid.specs.declared.parts.ConverterTopology.{ConverterTopology}

@@ -5,7 +5,7 @@ use Prim.Native.Nat.{ℕ, _^_}
 use lib.Ieee.{Float, binary64, ofBits, ofInt, round, neg, add, sub, mul, div, lt, isNan, size}
 use Rattle.float64.specs.Constants.{nought, one, decimal}
 use Rattle.float64.specs.Choice.{maxOf, absOf, clampOf}
-use Rattle.float64.specs.Root.{rootOf, floorRoot, nearestRoot}
+use Rattle.square_root.specs.Root.{rootOf, floorRoot, nearestRoot}
 use Rattle.float64.specs.Exponential.{E, terms, squared}
 use Rattle.float64.specs.Wave.{S, series, reducedAngle, wholePart}
 use Rattle.grid.specs.declared.parts.ConverterTopology.the-variants.{Lcc}

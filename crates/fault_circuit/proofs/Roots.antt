@@ -15,14 +15,14 @@ use lib.Ieee.Scale.{grid, finite, round-val, round-under}
 use lib.Ieee.Positive.{num, den, den-pos, positive, positive-finite, positive-of-value, le→cross}
 use Rattle.float64.specs.Constants.{nought, one, two, milli, micro, nano, pico}
 use Rattle.float64.specs.Arithmetic.{_⊖_, _⊗_, _⊘_}
-use Rattle.float64.specs.Root.{rootOf}
-use Rattle.float64.specs.Claims.{leastSquarable}
+use Rattle.square_root.specs.Root.{rootOf}
+use Rattle.square_root.specs.Claims.{leastSquarable}
 use Rattle.float64.proofs.Choosing.{max-first, max-holds}
 use Rattle.float64.proofs.Order.{le-trans-float}
 use Rattle.float64.proofs.Range.{UpTo, from-range, above-zero, zero-same, less, more}
 use Rattle.float64.proofs.Interval.{In, in-positive, in-wide, in-self, mul-in, div-in, sub-is, sub-le-first}
-use Rattle.float64.proofs.RootOfSquare.{root-le}
-use Rattle.float64.proofs.RootPlace.{rooted}
+use Rattle.square_root.proofs.RootOfSquare.{root-le}
+use Rattle.square_root.proofs.RootPlace.{rooted}
 use Rattle.fault_circuit.specs.declared.parameters.RlcParameters.{RlcParameters}
 use Rattle.fault_circuit.specs.Constants.{leastCapacitance, leastCableResistance}
 use Rattle.fault_circuit.specs.Circuit.{henries, inductance, capacitance, alpha, omega0Sq, disc, s1, s2, decayTau}

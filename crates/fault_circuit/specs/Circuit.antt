@@ -4,7 +4,7 @@ use lib.Ieee.{Float, lt, neg}
 use Rattle.float64.specs.Constants.{nought, one, two, milli, micro, kilo, nano, pico}
 use Rattle.float64.specs.Arithmetic.{_⊕_, _⊖_, _⊗_, _⊘_}
 use Rattle.float64.specs.Choice.{maxOf, absOf}
-use Rattle.float64.specs.Root.{rootOf}
+use Rattle.square_root.specs.Root.{rootOf}
 use Rattle.grid.specs.declared.parts.DcFaultType.{DcFaultType}
 use Rattle.grid.specs.declared.parts.DcFaultType.the-variants.{PoleToGround, PoleToPole, ConverterInternal}
 use Rattle.grid.specs.declared.parts.DcFaultEvent.{DcFaultEvent}

@@ -6,10 +6,10 @@ use crate::parameters::RlcParameters;
 use crate::parameters::fault_rlc_params;
 use float64::abs;
 use float64::max;
-use float64::sqrt;
 use grid::DcFaultEvent;
 use grid::DcFaultType;
 use grid::DcSwitchingSimulator;
+use square_root::sqrt;
 
 // What an inductance, a resistance and a time constant that divide are raised to.
 const LEAST: f64 = 0.000000001;

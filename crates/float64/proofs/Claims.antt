@@ -1,85 +1,18 @@
 -- The claims of specs/Claims.antt, proved. Assumes nothing.
-use mathlib.Core.Path.{_≡_, refl, ap, _∙_, subst}
-use mathlib.Core.Logic.{_⊎_, inl, inr}
-use mathlib.Core.Bool.{Bool, true, false, not}
-use Prim.Native.Nat.{ℕ, zero, suc, _*_, _/_, _^_, _<_}
-use native.Mathlib.Nat.{mul-pos, zero-lt-suc}
-use native.Mathlib.Omega.{arith}
-use lib.IntN.{ℤ, pos}
-use lib.Dec.{T, eqb, eqb→eq, lit<}
-use lib.Ieee.{Float, nan, inf, fin, binary64, up, down, fits, isNan, eq, le, mul, ofBits, toBits, size}
+use mathlib.Core.Path.{_≡_, refl, ap, _∙_}
+use mathlib.Core.Bool.{Bool, not}
+use Prim.Native.Nat.{ℕ, _*_, _/_, _^_, _<_}
+use lib.IntN.{ℤ}
+use lib.Dec.{T}
+use lib.Ieee.{Float, nan, inf, fin, binary64, up, down, fits, isNan, toBits}
 use lib.Ieee.Bits.{ofBits-toBits, toBits-ofBits}
 use lib.Ieee.Exact.{HasValue}
-use lib.Ieee.Fits.{up-pos, and-l, mul-fits}
-use lib.Ieee.Positive.{positive, above-of-le, mul-mono}
-use lib.Ieee.Scale.{finite}
-use Rattle.float64.specs.Constants.{nought, two, sqrt2}
-use Rattle.float64.specs.Root.{rootOf, floorRoot, nearestRoot}
 use Rattle.float64.specs.Wave.{wholePart}
 use Rattle.float64.specs.Pattern.{bitsOf, doubleOf}
-use Rattle.float64.specs.Claims.{leastSquarable, RootClaims, ExponentialClaims, WaveClaims, PatternClaims}
-use Rattle.float64.proofs.Order.{le-refl-float}
-use Rattle.float64.proofs.RootNearest.{root-is, root-only}
-use Rattle.float64.proofs.RootOfSquare.{root-le, above-finite}
+use Rattle.float64.specs.Claims.{ExponentialClaims, WaveClaims, PatternClaims}
 use Rattle.float64.proofs.ExpBound.{E-between}
-use Rattle.float64.proofs.SameValue.{same-value}
 use Rattle.float64.proofs.Whole.{whole-exact}
 use Rattle.float64.proofs.WaveBound.{sine-within, cosine-within}
-
-two-root : rootOf two ≡ sqrt2
-unfolding rootOf floorRoot nearestRoot ofBits size
-two-root = refl
-
--- ---- the root of a square
-zero-square : (s : Bool) → T (le (rootOf (mul binary64 (fin s 0 (pos 0)) (fin s 0 (pos 0)))) (fin s 0 (pos 0)))
-unfolding rootOf mul le
-zero-square true = tt
-zero-square false = tt
-
--- a zero is written in one way
-zero-is : (s : Bool) (e : ℤ) → T (fits binary64 (fin s 0 e)) → fin s 0 (pos 0) ≡ fin s 0 e
-unfolding fits
-zero-is s e F = same-value binary64 (fin s 0 (pos 0)) (fin s 0 e) s 0 1 (lit< tt) tt F (refl, omega arith) (refl, omega arith)
-
-of-zero-square : (x : Float) → T (fits binary64 x) → T (eq x nought) → T (le (rootOf (mul binary64 x x)) x)
-unfolding eq ofBits
-of-zero-square nan F h = absurd h
-of-zero-square (inf true) F h = absurd h
-of-zero-square (inf false) F h = absurd h
-of-zero-square (fin s zero e) F h = subst (λ (z : Float). T (le (rootOf (mul binary64 z z)) z)) (zero-is s e F) (zero-square s)
-of-zero-square (fin s (suc m) e) F h = absurd (absent (mul-pos (zero-lt-suc m) (up-pos e)) (eqb→eq (suc m * up e * 1) (0 * down e) (and-l (eqb (suc m * up e * 1) (0 * down e)) _ h)))
-  where
-    absent : 0 < suc m * up e → suc m * up e * 1 ≡ 0 * down e → ⊥
-    absent p k = omega arith
-
-least-square : T (positive (mul binary64 leastSquarable leastSquarable))
-unfolding mul
-least-square = tt
-
-number : (x : Float) → T (le leastSquarable x) → T (finite (mul binary64 x x)) → T (positive x)
-unfolding le mul
-number nan h F = absurd h
-number (inf true) h F = absurd h
-number (inf false) h F = absurd F
-number (fin s m e) h F = above-finite (fin s m e) (above-of-le leastSquarable (fin s m e) tt h) tt
-
-no-nan : (x : Float) → T (finite x) → T (not (isNan x))
-unfolding isNan
-no-nan nan F = F
-no-nan (inf s) F = tt
-no-nan (fin s m e) F = tt
-
-of-square : (x : Float) → T (fits binary64 x) → T (eq x nought) ⊎ T (le leastSquarable x) → T (finite (mul binary64 x x)) → T (le (rootOf (mul binary64 x x)) x)
-of-square x f (inl e) F = of-zero-square x f e
-of-square x f (inr h) F =
-    let p = number x h F in
-    let s = mul binary64 x x in
-    let l : T (le (mul binary64 leastSquarable leastSquarable) s) = mul-mono binary64 leastSquarable x leastSquarable x tt p tt p h h in
-    let P : T (positive s) = above-finite s (above-of-le (mul binary64 leastSquarable leastSquarable) s least-square l) F in
-    root-le s x (mul-fits binary64 x x) f P p h F (le-refl-float s (no-nan s F))
-
-pub root-claims : RootClaims
-root-claims = record { nearest = root-is; only = root-only; of-square = of-square; of-two = two-root }
 
 pub exponential-claims : ExponentialClaims
 exponential-claims = record { between = E-between }

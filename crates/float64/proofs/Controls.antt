@@ -1,5 +1,5 @@
 -- Worked examples of the definitions: they are believed, so a wrong clause need break no other proof.
--- The answers for the root, E, S, C, the whole part and radians were computed in Python's doubles, the root by its library and the others by document 01's steps.
+-- The answers for E, S, C, the whole part and radians were computed in Python's doubles, by document 01's steps.
 -- Those for max, min, abs, clamp and the bit patterns were written by hand from document 01 and IEEE 754.
 use mathlib.Core.Path.{_≡_, refl}
 use mathlib.Core.Bool.{true, false}
@@ -8,7 +8,6 @@ use lib.Ieee.{Float, nan, inf, binary64, neg, ofBits, toBits, round, add, sub, m
 use Rattle.float64.specs.Constants.{nought, one, minusOne, two}
 use Rattle.float64.specs.Choice.{maxOf, minOf, absOf, clampOf}
 use Rattle.float64.specs.Angle.{radiansOf}
-use Rattle.float64.specs.Root.{floorRoot, nearestRoot, rootOf}
 use Rattle.float64.specs.Exponential.{terms, squared, E}
 use Rattle.float64.specs.Wave.{wholePart, reducedAngle, series, S, C}
 use Rattle.float64.specs.Pattern.{bitsOf, doubleOf}
@@ -40,15 +39,6 @@ clamp-are = (refl, refl, refl, refl, refl)
 radians-are : (radiansOf (double 0x4066800000000000) ≡ double 0x400921fb54442d18) × (radiansOf (double 0x4056800000000000) ≡ double 0x3ff921fb54442d18) × (radiansOf (double 0x402e000000000000) ≡ double 0x3fd0c152382d7365)
 unfolding ofBits mul div
 radians-are = (refl, refl, refl)
-
--- 2, 3, 1/4, the smallest and the largest double, 1 - 2 ^ -53 and a subnormal
-root-are : (rootOf (double 0x4000000000000000) ≡ double 0x3ff6a09e667f3bcd) × (rootOf (double 0x4008000000000000) ≡ double 0x3ffbb67ae8584caa) × (rootOf (double 0x3fd0000000000000) ≡ double 0x3fe0000000000000) × (rootOf (double 0x0000000000000001) ≡ double 0x1e60000000000000) × (rootOf (double 0x7fefffffffffffff) ≡ double 0x5fefffffffffffff) × (rootOf (double 0x3fefffffffffffff) ≡ double 0x3fefffffffffffff) × (rootOf (double 0x00001b9cd1295941) ≡ double 0x1fc504e1663053e5)
-unfolding rootOf floorRoot nearestRoot ofBits size
-root-are = (refl, refl, refl, refl, refl, refl, refl)
-
-root-of-others : (rootOf nan ≡ nan) × (rootOf minusNought ≡ minusNought) × (rootOf minusOne ≡ nan) × (rootOf (inf true) ≡ nan) × (rootOf (inf false) ≡ inf false)
-unfolding rootOf ofBits neg
-root-of-others = (refl, refl, refl, refl, refl)
 
 -- 0, -1, -1/2, -700, the next double below -700, and 1
 exponential-are : (E (double 0x0000000000000000) ≡ double 0x3ff0000000000000) × (E (neg (double 0x3ff0000000000000)) ≡ double 0x3fd78b56362cf004) × (E (neg (double 0x3fe0000000000000)) ≡ double 0x3fe368b2fc6f9789) × (E (neg (double 0x4085e00000000000)) ≡ double 0x00d14f2b0fb92e43) × (E (neg (double 0x4085e00000000001)) ≡ double 0x0000000000000000) × (E (double 0x3ff0000000000000) ≡ double 0x4005bf0a8b145459)

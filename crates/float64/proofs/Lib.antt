@@ -8,16 +8,10 @@ pub mod NanPattern
 pub mod Series
 pub mod Whole
 pub mod Reduced
-pub mod RootNumbers
 pub mod Fields
-pub mod RootPlace
-pub mod RootCases
-pub mod RootNearest
 pub mod Unit
 pub mod ExpBound
 pub mod WaveBound
-pub mod RoundError
-pub mod RootOfSquare
 pub mod Claims
 pub mod Tied
 mod Controls

@@ -8,13 +8,9 @@ use denote.Triple.Clauses.{AtExit}
 use lib.Dec.{T}
 use lib.Ieee.{Float, binary64, fits, le}
 use Rattle.float64.specs.Constants.{nought, one}
-use Rattle.float64.specs.Root.{IsRoot}
 use Rattle.float64.specs.Pattern.{doubleOf}
 use Rattle.float64.specs.Claims.{InUnit}
-use Rattle.float64.proofs.Claims.{root-claims, exponential-claims, wave-claims, pattern-claims}
-use Rattle.float64.proofs.root.sqrt as sqrt-contract
-use Rattle.float64.proofs.root.sqrt.Kinds as sqrt-kinds
-use Rattle.float64.proofs.root.sqrt.Reads as sqrt-reads
+use Rattle.float64.proofs.Claims.{exponential-claims, wave-claims, pattern-claims}
 use Rattle.float64.proofs.exponential.exp as exp-contract
 use Rattle.float64.proofs.exponential.exp.Kinds as exp-kinds
 use Rattle.float64.proofs.exponential.exp.Reads as exp-reads
@@ -30,13 +26,6 @@ use Rattle.float64.proofs.pattern.to_bits.Reads as to-bits-reads
 use Rattle.float64.proofs.pattern.from_bits as from-bits-contract
 use Rattle.float64.proofs.pattern.from_bits.Kinds as from-bits-kinds
 use Rattle.float64.proofs.pattern.from_bits.Reads as from-bits-reads
-
-module _ (κs : Lfts 0) (a : ArgsD sqrt-contract.signature κs) (r : ResD sqrt-contract.signature κs) (e : AtExit (endedOf 0 sqrt-kinds.ps sqrt-kinds.r) κs) where
-  pub sqrt-any : sqrt-reads.Asked κs a
-  sqrt-any = tt
-
-  pub sqrt-root : sqrt-reads.Learnt κs a r e → T (fits binary64 (a .0)) → IsRoot (a .0) r
-  sqrt-root h k = subst (λ (y : Float). IsRoot (a .0) y) (sym h) (root-claims .nearest (a .0) k)
 
 module _ (κs : Lfts 0) (a : ArgsD exp-contract.signature κs) (r : ResD exp-contract.signature κs) (e : AtExit (endedOf 0 exp-kinds.ps exp-kinds.r) κs) where
   pub exp-any : exp-reads.Asked κs a

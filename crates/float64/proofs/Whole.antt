@@ -19,7 +19,6 @@ use lib.Ieee.Nearest.{div-same}
 use lib.Ieee.Positive.{positive}
 use lib.Ieee.Scale.{round-same}
 use Rattle.float64.specs.Constants.{nought}
-use Rattle.float64.specs.Root.{Units}
 use Rattle.float64.specs.Wave.{wholePart}
 use Rattle.float64.proofs.Fields.{read, unitsAt, made-fields, units-below}
 use Rattle.float64.proofs.NanPattern.{no-nan-below}
@@ -34,12 +33,12 @@ whole-exact s m (negsuc k) F = round-whole binary64 s (m * 1 / 2 ^ suc k) (cut (
     cut h g = omega arith
 
 -- ---- in units: u / 2 ^ 1074 is the whole part of u units
-whole-units : (y : Float) (n : ℕ) → Units y (n * 2 ^ 1074) → HasValue y false n 1
+whole-units : (y : Float) (n : ℕ) → HasValue y false (n * 2 ^ 1074) (2 ^ 1074) → HasValue y false n 1
 whole-units nan n v = absurd v
 whole-units (inf s) n v = absurd v
 whole-units (fin s m e) n v = (v .0, mul-one (m * up e) ∙ eq-of-mul-eq-mul-right (2 ^ 1074) (pow-pos 1074) (m * up e) (n * down e) (v .1 ∙ mul-right-comm n (2 ^ 1074) (down e)))
 
-is-whole : (x y : Float) (u : ℕ) → T (fits binary64 x) → T (fits binary64 y) → T (positive x) → Units x u → Units y (u / 2 ^ 1074 * 2 ^ 1074) → y ≡ wholePart x
+is-whole : (x y : Float) (u : ℕ) → T (fits binary64 x) → T (fits binary64 y) → T (positive x) → HasValue x false u (2 ^ 1074) → HasValue y false (u / 2 ^ 1074 * 2 ^ 1074) (2 ^ 1074) → y ≡ wholePart x
 unfolding wholePart
 is-whole nan y u F G p v w = absurd p
 is-whole (inf s) y u F G p v w = absurd p
@@ -76,7 +75,7 @@ abbrev field : Float → ℕ
 field x = toBits binary64 x / 2 ^ 52
 
 -- below 1 there is none
-zero-units : Units nought 0
+zero-units : HasValue nought false 0 (2 ^ 1074)
 unfolding ofBits
 zero-units = (refl, refl)
 
@@ -91,7 +90,7 @@ below-one x F p h = elim (above-is x p) [
       let r = read x F q in
       let u = unitsAt (field x) (toBits binary64 x % 2 ^ 52) in
       let z : 0 ≡ u / 2 ^ 1074 * 2 ^ 1074 = sym (ap (λ (n : ℕ). n * 2 ^ 1074) (div-eq-of-lt (units-below (field x) (toBits binary64 x % 2 ^ 52) 1074 (omega arith) (room (field x) h))) ∙ zero-mul (2 ^ 1074)) in
-      is-whole x nought u F zero-fits q (r .value) (subst (Units nought) z zero-units)
+      is-whole x nought u F zero-fits q (r .value) (subst (λ (n : ℕ). HasValue nought false n (2 ^ 1074)) z zero-units)
 ]
   where
     room : (E : ℕ) → E < 1023 → E + 52 ≤ 1074
@@ -118,7 +117,7 @@ no-fraction x F p h = elim (above-is x p) [
   | inr q ↦
       let r = read x F q in
       let t = toBits binary64 x % 2 ^ 52 in
-      is-whole x x (unitsAt (field x) t) F F q (r .value) (subst (Units x) (sym (large-units (field x) t h)) (r .value))
+      is-whole x x (unitsAt (field x) t) F F q (r .value) (subst (λ (n : ℕ). HasValue x false n (2 ^ 1074)) (sym (large-units (field x) t h)) (r .value))
 ]
 
 -- in between the last 1075 - E digits are the fraction's
@@ -175,7 +174,7 @@ cleared b n h =
     let m : b % 2 ^ 52 % 2 ^ n ≤ b % 2 ^ 52 = omega (arith, div-add-mod' (b % 2 ^ 52) (2 ^ n)) in
     record { exponent = omega arith; digits = omega arith; most = omega arith }
 
-middle-value : (b E t n c : ℕ) → b < 2 ^ 63 → b / 2 ^ 52 ≡ E → 1023 ≤ E → E < 1075 → b % 2 ^ 52 ≡ t → Cleared b n c → Units (ofBits binary64 c) (unitsAt E (t - t % 2 ^ n))
+middle-value : (b E t n c : ℕ) → b < 2 ^ 63 → b / 2 ^ 52 ≡ E → 1023 ≤ E → E < 1075 → b % 2 ^ 52 ≡ t → Cleared b n c → HasValue (ofBits binary64 c) false (unitsAt E (t - t % 2 ^ n)) (2 ^ 1074)
 middle-value b zero t n c l e h k d r = absurd (not-le-of-lt (lit< tt) h)
 middle-value b (suc E) t n c l e h k d r =
     made-fields c E (t - t % 2 ^ n) (lt-of-le-of-lt (r .most) l) (r .exponent ∙ e) (r .digits ∙ ap (λ (z : ℕ). z - z % 2 ^ n) d) (room k)
@@ -194,7 +193,7 @@ module _ (x : Float) (F : T (fits binary64 x)) (p : T (lt nought x)) (h : 1023 �
       let r = read x F number in
       let w : Cleared b (1075 - field x) c = subst (Cleared b (1075 - field x)) (sym e) (cleared b (1075 - field x) (omega arith)) in
       is-whole x (ofBits binary64 c) (unitsAt (field x) t) F (ofBits-fits binary64 c) number (r .value)
-      (subst (Units (ofBits binary64 c)) (sym (middle-units (field x) t h k)) (middle-value b (field x) t (1075 - field x) c (omega arith) refl h k refl w))
+      (subst (λ (n : ℕ). HasValue (ofBits binary64 c) false n (2 ^ 1074)) (sym (middle-units (field x) t h k)) (middle-value b (field x) t (1075 - field x) c (omega arith) refl h k refl w))
 
   pub cleared-no-nan : (c : ℕ) → c ≡ toBits binary64 x - toBits binary64 x % 2 ^ (1075 - field x) → T (not (nanBits binary64 c))
   cleared-no-nan c e =

@@ -3,30 +3,14 @@ use mathlib.Core.Path.{_≡_}
 use mathlib.Core.Logic.{_⊎_}
 use Prim.Native.Nat.{ℕ, _*_, _/_, _^_, _<_}
 use lib.Dec.{T}
-use lib.IntN.{ℤ, negsuc}
-use lib.Ieee.{Float, nan, fin, binary64, up, down, fits, isNan, eq, le, mul}
+use lib.IntN.{ℤ}
+use lib.Ieee.{Float, nan, fin, binary64, up, down, fits, isNan, le}
 use lib.Ieee.Exact.{HasValue}
-use lib.Ieee.Scale.{finite}
-use mathlib.Core.Bool.{Bool, false, not}
-use Rattle.float64.specs.Constants.{nought, one, minusOne, two, sqrt2}
-use Rattle.float64.specs.Root.{IsRoot, rootOf}
+use mathlib.Core.Bool.{Bool, not}
+use Rattle.float64.specs.Constants.{nought, one, minusOne}
 use Rattle.float64.specs.Exponential.{E}
 use Rattle.float64.specs.Wave.{wholePart, S, C}
 use Rattle.float64.specs.Pattern.{bitsOf, doubleOf}
-
--- 2 ^ -511: from here up a square does not underflow
-abbrev pub leastSquarable : Float
-leastSquarable = fin false 1 (negsuc 510)
-
-pub record RootClaims : Type 0 where
-  -- `rootOf` is the nearest double
-  pub nearest : (x : Float) → T (fits binary64 x) → IsRoot x (rootOf x)
-  -- and no other double is: "the nearest" leaves no choice
-  pub only : (x y : Float) → T (fits binary64 x) → IsRoot x y → y ≡ rootOf x
-  -- the root of a rounded square is at most the number, from 0 up, where the square neither overflows nor underflows
-  pub of-square : (x : Float) → T (fits binary64 x) → T (eq x nought) ⊎ T (le leastSquarable x) → T (finite (mul binary64 x x)) → T (le (rootOf (mul binary64 x x)) x)
-  -- SQRT_2 is the nearest double
-  pub of-two : rootOf two ≡ sqrt2
 
 -- "For accepted input t is never positive, and 0 ≤ E ≤ 1"
 pub record ExponentialClaims : Type 0 where

@@ -66,14 +66,6 @@ pub pi-is : pi ≡ decimal 314159265358979323846264338327950288 (10 ^ 35)
 unfolding ofBits round
 pi-is = refl
 
--- SQRT_2. That it is the nearest double to the root of 2 is `of-two` of Claims.
-abbrev pub sqrt2 : Float
-sqrt2 = ofBits binary64 0x3ff6_a09e_667f_3bcd
-
-pub sqrt2-is : sqrt2 ≡ decimal 141421356237309504880168872420969807 (10 ^ 35)
-unfolding ofBits round
-sqrt2-is = refl
-
 -- PI / 180, the rounded quotient
 abbrev pub degree : Float
 degree = div binary64 pi k180

@@ -2,8 +2,6 @@ pub mod Constants
 pub mod Arithmetic
 pub mod Choice
 pub mod Angle
-pub mod Root
-pub mod RootDigits
 pub mod Exponential
 pub mod Wave
 pub mod Pattern

@@ -1,12 +1,11 @@
-// Doubles as document 01 has them: the methods of Rust's f64 that 000 calls, the square root of IEEE 754, and the
-// functions E, S and C that stand for exp, sin and cos. Every function is defined at every double, NaN and the infinities
-// among them, and equals its definition in specs/.
+// Doubles as document 01 has them: the methods of Rust's f64 that 000 calls, and the functions E, S and C that stand for
+// exp, sin and cos. The square root is a crate of its own, `square_root`. Every function is defined at every double, NaN and
+// the infinities among them, and equals its definition in specs/.
 mod angle;
 mod choice;
 mod constants;
 mod exponential;
 mod pattern;
-mod root;
 mod wave;
 
 pub use angle::to_radians;
@@ -15,12 +14,9 @@ pub use choice::clamp;
 pub use choice::max;
 pub use choice::min;
 pub use constants::PI;
-pub use constants::SQRT_2;
-pub use constants::root_of_two;
 pub use exponential::exp;
 pub use pattern::from_bits;
 pub use pattern::to_bits;
-pub use root::sqrt;
 pub use wave::cos;
 pub use wave::sin;
 pub use wave::whole_part;

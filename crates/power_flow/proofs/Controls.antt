@@ -8,7 +8,7 @@ use lib.Ieee.{Float, binary64, ofBits, ofInt, round, neg, add, sub, mul, div, lt
 use Rattle.lists.specs.Tables.{tab, padded}
 use Rattle.float64.specs.Constants.{nought, decimal}
 use Rattle.float64.specs.Choice.{maxOf, minOf, absOf, clampOf}
-use Rattle.float64.specs.Root.{rootOf, floorRoot, nearestRoot}
+use Rattle.square_root.specs.Root.{rootOf, floorRoot, nearestRoot}
 use Rattle.float64.specs.Wave.{C, series}
 use Rattle.grid.specs.declared.parts.ConverterTopology.{ConverterTopology}
 use Rattle.grid.specs.declared.parts.ConverterTopology.the-variants.{Lcc, TwoLevelVsc, Hybrid}

@@ -26,7 +26,7 @@ pub fn answer(lines: &mut [u8; ROOM], answers: &mut [u8; ROOM], c: Cursor) -> Af
 // The operations that take one double ignore b.
 fn result_of(operation: u64, a: f64, b: f64) -> f64 {
     match operation {
-        0 => float64::sqrt(a),
+        0 => square_root::sqrt(a),
         1 => float64::exp(a),
         2 => float64::sin(a),
         3 => float64::cos(a),

@@ -50,7 +50,7 @@ pub extern "C" fn sum_sqrt(first: f64, step: f64, count: u64) -> f64 {
     let mut t = first;
     let mut left = count;
     while 0 < left {
-        sum += float64::sqrt(t);
+        sum += square_root::sqrt(t);
         t += step;
         left -= 1;
     }

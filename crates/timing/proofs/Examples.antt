@@ -2,7 +2,7 @@
 use mathlib.Core.Path.{refl}
 use lib.Ieee.{size, ofBits, toBits, ofInt, round, neg, add, sub, mul, div, lt, le, eq, isNan}
 use Rattle.float64.specs.Choice.{maxOf, clampOf}
-use Rattle.float64.specs.Root.{floorRoot, nearestRoot, rootOf}
+use Rattle.square_root.specs.Root.{floorRoot, nearestRoot, rootOf}
 use Rattle.float64.specs.Exponential.{terms, squared, E}
 use Rattle.float64.specs.Wave.{wholePart, reducedAngle, series, S, C}
 use Rattle.grid.specs.Ranges.{realIn}

@@ -3,7 +3,7 @@ use mathlib.Core.Path.{_≡_}
 use lib.Ieee.{Float, nan, neg}
 use Rattle.float64.specs.Constants.{decimal}
 use Rattle.float64.specs.Choice.{maxOf}
-use Rattle.float64.specs.Root.{rootOf}
+use Rattle.square_root.specs.Root.{rootOf}
 use Rattle.float64.specs.Exponential.{E}
 use Rattle.float64.specs.Wave.{S, C}
 use Rattle.grid.specs.Parts.{submodulesOf}

@@ -1,10 +1,10 @@
 -- `nearest_root` meets its contract. Assumes nothing.
 use Prim.Native.Nat.{_*_, _^_}
 use native.Mathlib.Omega.{arith}
-use Rattle.float64.proofs.RootNumbers.{sq-lt, root-ge, nearest-up, nearest-down}
+use Rattle.square_root.proofs.RootNumbers.{sq-lt, root-ge, nearest-up, nearest-down}
 use borrow.Author.Needs.{needs}
-use Rattle.float64.proofs.root.nearest_root.Statement.{statement}
-use Rattle.float64.proofs.root.nearest_root.Tie as tie
+use Rattle.square_root.proofs.root.nearest_root.Statement.{statement}
+use Rattle.square_root.proofs.root.nearest_root.Tie as tie
 
 floor-root-requires : tie.Need-floor-root-requires
 floor-root-requires c κs = search needs

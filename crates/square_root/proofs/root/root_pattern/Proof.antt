@@ -1,10 +1,10 @@
 -- `root_pattern` meets its contract. Assumes nothing.
 use native.Mathlib.Omega.{arith}
 use mathlib.Core.Path.{refl}
-use Rattle.float64.proofs.RootNumbers.{even, odd, lift}
+use Rattle.square_root.proofs.RootNumbers.{even, odd, lift}
 use borrow.Author.Needs.{needs}
-use Rattle.float64.proofs.root.root_pattern.Statement.{statement}
-use Rattle.float64.proofs.root.root_pattern.Tie as tie
+use Rattle.square_root.proofs.root.root_pattern.Statement.{statement}
+use Rattle.square_root.proofs.root.root_pattern.Tie as tie
 
 mul-result : tie.Need-mul-result
 mul-result c = search needs

@@ -13,13 +13,13 @@ use lib.Ieee.Bits.{ofBits-fits}
 use lib.Ieee.Digits.{back}
 use lib.Ieee.Fits.{down-pos}
 use lib.Ieee.Positive.{positive, positive-of-value}
-use Rattle.float64.specs.Root.{Units, radicand, AsNear, NearestRoot, IsRoot, rootOf}
-use Rattle.float64.specs.RootDigits.{Placed}
+use Rattle.square_root.specs.Root.{Units, radicand, AsNear, NearestRoot, IsRoot, rootOf}
+use Rattle.square_root.specs.RootDigits.{Placed}
 use Rattle.float64.proofs.Fields.{read, unitsAt}
 use Rattle.lists.proofs.Counting.{compared}
-use Rattle.float64.proofs.RootNumbers.{square-le, pow-double}
-use Rattle.float64.proofs.RootPlace.{rooted}
+use Rattle.square_root.proofs.RootNumbers.{square-le, pow-double}
+use Rattle.square_root.proofs.RootPlace.{rooted}
 use Rattle.float64.proofs.SameValue.{same-value}
 
 -- a double is one number of units
 pub units-unique : (x : Float) (a b : ℕ) → Units x a → Units x b → a ≡ b

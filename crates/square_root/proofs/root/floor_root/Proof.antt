@@ -3,11 +3,11 @@ use mathlib.Core.Path.{_≡_, sym, _∙_}
 use Prim.Native.Nat.{_+_, _*_, _/_, _^_, _≤_}
 use native.Mathlib.Omega.{arith}
 use borrow.Author.Needs.{needs}
-use Rattle.float64.specs.RootDigits.{FloorOf}
-use Rattle.float64.proofs.RootNumbers.{sq-lt, le-scaled, digit, scale, at-zero, at-zero'}
+use Rattle.square_root.specs.RootDigits.{FloorOf}
+use Rattle.square_root.proofs.RootNumbers.{sq-lt, le-scaled, digit, scale, at-zero, at-zero'}
 use lib.Pow.{shr-le}
-use Rattle.float64.proofs.root.floor_root.Statement.{statement}
-use Rattle.float64.proofs.root.floor_root.Tie as tie
+use Rattle.square_root.proofs.root.floor_root.Statement.{statement}
+use Rattle.square_root.proofs.root.floor_root.Tie as tie
 
 abbrev Inv-loop : tie.InvT-loop
 Inv-loop m s₀ k₀ s k = (k ≤ 27) × FloorOf (m / 2 ^ (2 * k)) (s .root) (s .rest)

@@ -12,14 +12,14 @@ use lib.Ieee.Exact.{HasValue}
 use lib.Ieee.Order.{le-of-values, drop}
 use lib.Ieee.Scale.{grid, finite, round-val, round-under}
 use lib.Ieee.Positive.{positive, values-of-le, mul-at, above, above-of-le}
-use Rattle.float64.specs.Root.{radicand, rootOf}
-use Rattle.float64.specs.RootDigits.{Placed}
-use Rattle.float64.specs.Claims.{leastSquarable}
+use Rattle.square_root.specs.Root.{radicand, rootOf}
+use Rattle.square_root.specs.RootDigits.{Placed}
+use Rattle.square_root.specs.Claims.{leastSquarable}
 use Rattle.float64.proofs.Fields.{read, unitsAt}
 use Rattle.lists.proofs.Counting.{compared}
-use Rattle.float64.proofs.RootNumbers.{square-le, pow-double}
-use Rattle.float64.proofs.RootPlace.{rooted}
-use Rattle.float64.proofs.RoundError.{grid-half, drop-reaches}
+use Rattle.square_root.proofs.RootNumbers.{square-le, pow-double}
+use Rattle.square_root.proofs.RootPlace.{rooted}
+use Rattle.square_root.proofs.RoundError.{grid-half, drop-reaches}
 
 -- y is Q * 2 ^ k units, with all 53 digits, and 2 ^ -511 at least
 pub record Normal (y : Float) : Type 0 where

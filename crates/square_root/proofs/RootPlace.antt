@@ -11,10 +11,10 @@ use lib.Ieee.Digits.{size-lt, size-le, size-reaches, back}
 use lib.Ieee.Fits.{down-pos}
 use lib.Ieee.Exact.{HasValue}
 use lib.Ieee.Positive.{positive, value-pos}
-use Rattle.float64.specs.Root.{Units, radicand, floorRoot, nearestRoot, lastPlace, rootAt, rootOf}
-use Rattle.float64.specs.RootDigits.{Placed, RootPattern, Shifted}
+use Rattle.square_root.specs.Root.{Units, radicand, floorRoot, nearestRoot, lastPlace, rootAt, rootOf}
+use Rattle.square_root.specs.RootDigits.{Placed, RootPattern, Shifted}
 use Rattle.float64.proofs.Fields.{Read, read, unitsAt, units-below, made}
-use Rattle.float64.proofs.RootNumbers.{sq-lt, root-ge, less-one}
+use Rattle.square_root.proofs.RootNumbers.{sq-lt, root-ge, less-one}
 
 -- ---- floorRoot
 record Cut (n r : ℕ) : Type 0 where

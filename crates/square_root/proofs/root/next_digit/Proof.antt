@@ -2,9 +2,9 @@
 use Prim.Native.Nat.{_+_, _*_}
 use native.Mathlib.Omega.{arith}
 use borrow.Author.Needs.{needs}
-use Rattle.float64.proofs.RootNumbers.{digit-more, most, enough}
-use Rattle.float64.proofs.root.next_digit.Statement.{statement}
-use Rattle.float64.proofs.root.next_digit.Tie as tie
+use Rattle.square_root.proofs.RootNumbers.{digit-more, most, enough}
+use Rattle.square_root.proofs.root.next_digit.Statement.{statement}
+use Rattle.square_root.proofs.root.next_digit.Tie as tie
 
 mul-rest : tie.Need-mul-rest
 mul-rest c = search needs

@@ -1,7 +1,7 @@
 -- `within` meets its contract. Assumes nothing.
 use borrow.Author.Tests.{le-leb, lt-leb}
-use Rattle.float64.proofs.root.within.Statement.{statement}
-use Rattle.float64.proofs.root.within.Tie as tie
+use Rattle.square_root.proofs.root.within.Statement.{statement}
+use Rattle.square_root.proofs.root.within.Tie as tie
 
 returns : tie.Need-returns
 returns c = simp (le-leb _ _ (c .if1 .taken))

@@ -4,8 +4,8 @@ ghost use Prim.Native.Nat.{_+_, _-_, _*_, _^_, _≤_, _<_};
 ghost use mathlib.Core.Bool.{cond};
 ghost use lib.Dec.{T, leb};
 ghost use lib.Ieee.Positive.{positive};
-ghost use Rattle.float64.specs.Root.{rootOf};
-ghost use Rattle.float64.specs.RootDigits.{FloorOf, NearestWhole, RootPattern, Shifted};
+ghost use Rattle.square_root.specs.Root.{rootOf};
+ghost use Rattle.square_root.specs.RootDigits.{FloorOf, NearestWhole, RootPattern, Shifted};
 
 // f64::sqrt
 pub fn sqrt(x: f64) -> f64

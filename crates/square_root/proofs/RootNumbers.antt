@@ -7,7 +7,7 @@ use native.Mathlib.Omega.{arith}
 use borrow.Author.Tests.{leb-true, leb-false}
 use lib.Dec.{leb, lit≤}
 use lib.Pow.{pow-add, pow-pos, shr-shr}
-use Rattle.float64.specs.RootDigits.{FloorOf, NearestWhole, Placed}
+use Rattle.square_root.specs.RootDigits.{FloorOf, NearestWhole, Placed}
 
 pub sq-lt : (r : ℕ) → r * r < 2 ^ 106 → r < 2 ^ 53
 sq-lt r h = lt-of-not-le (λ (g : 2 ^ 53 ≤ r). not-le-of-lt h (mul-le-mul g g))

@@ -2,10 +2,10 @@
 use native.Mathlib.Omega.{arith}
 use borrow.Author.Needs.{needs}
 use lib.Ieee.{binary64, toBits}
 use Rattle.float64.proofs.Fields.{no-nan, Read, read, read-pos}
-use Rattle.float64.proofs.RootPlace.{no-nan-pattern, normal-root, low-root}
-use Rattle.float64.proofs.root.root_of_positive.Statement.{statement}
-use Rattle.float64.proofs.root.root_of_positive.Tie as tie
+use Rattle.square_root.proofs.RootPlace.{no-nan-pattern, normal-root, low-root}
+use Rattle.square_root.proofs.root.root_of_positive.Statement.{statement}
+use Rattle.square_root.proofs.root.root_of_positive.Tie as tie
 
 fields : (c : tie.Start) → Read (c .args .x) (toBits binary64 (c .args .x))
 fields c = read _ (search needs) (c .pre)

@@ -11,8 +11,8 @@ use lib.Ieee.Fits.{up-pos}
 use lib.Ieee.Compare.{differs-from-itself}
 use lib.Ieee.Positive.{positive}
 use lib.Ieee.Bits.{ofBits-toBits}
 use Rattle.float64.specs.Constants.{nought}
-use Rattle.float64.specs.Root.{rootOf}
+use Rattle.square_root.specs.Root.{rootOf}
 
 pub of-nan : (x : Float) → ne x x ≡ true → x ≡ rootOf x
 unfolding rootOf

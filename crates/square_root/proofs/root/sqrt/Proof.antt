@@ -1,9 +1,9 @@
 -- `sqrt` meets its contract, test by test. Assumes nothing.
 use borrow.Author.Needs.{needs}
-use Rattle.float64.proofs.RootCases.{of-nan, of-negative, of-zero, of-infinity, rest}
+use Rattle.square_root.proofs.RootCases.{of-nan, of-negative, of-zero, of-infinity, rest}
 use Rattle.float64.proofs.Tests.{no-nan}
-use Rattle.float64.proofs.root.sqrt.Statement.{statement}
-use Rattle.float64.proofs.root.sqrt.Tie as tie
+use Rattle.square_root.proofs.root.sqrt.Statement.{statement}
+use Rattle.square_root.proofs.root.sqrt.Tie as tie
 
 returns : tie.Need-returns
 returns c = of-nan _ (c .if1 .taken)

@@ -3,9 +3,9 @@ use mathlib.Core.Path.{_≡_, refl}
 use Prim.Native.Nat.{_-_, _*_, _^_, _≤_, _<_}
 use native.Mathlib.Omega.{arith}
 use borrow.Author.Needs.{needs}
-use Rattle.float64.proofs.RootNumbers.{places, doubled, more-places}
-use Rattle.float64.proofs.root.normalised.Statement.{statement}
-use Rattle.float64.proofs.root.normalised.Tie as tie
+use Rattle.square_root.proofs.RootNumbers.{places, doubled, more-places}
+use Rattle.square_root.proofs.root.normalised.Statement.{statement}
+use Rattle.square_root.proofs.root.normalised.Tie as tie
 
 abbrev Inv-loop : tie.InvT-loop
 Inv-loop f m₀ w₀ m w = (m < 2 ^ 53) × (m * 2 ^ w ≡ f * 2 ^ 1022) × (w ≤ 1022) × (2 ^ (1022 - w) ≤ m)

@@ -1,0 +1,4 @@
+pub mod Constants
+pub mod Root
+pub mod RootDigits
+pub mod Claims
