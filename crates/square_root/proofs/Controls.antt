@@ -3,7 +3,7 @@
 use mathlib.Core.Path.{_≡_, refl}
 use mathlib.Core.Bool.{true, false}
 use Prim.Native.Nat.{ℕ}
-use lib.Ieee.{Float, nan, inf, binary64, neg, ofBits, size}
+use lib.Ieee.{Float, nan, inf, binary64, neg, ofBits, size, mul}
 use Rattle.float64.specs.Constants.{nought, minusOne}
 use Rattle.square_root.specs.Root.{floorRoot, nearestRoot, rootOf}
 
@@ -21,3 +21,8 @@ root-are = (refl, refl, refl, refl, refl, refl, refl)
 root-of-others : (rootOf nan ≡ nan) × (rootOf minusNought ≡ minusNought) × (rootOf minusOne ≡ nan) × (rootOf (inf true) ≡ nan) × (rootOf (inf false) ≡ inf false)
 unfolding rootOf ofBits neg
 root-of-others = (refl, refl, refl, refl, refl)
+
+-- `of-square` has its limit: just below 2 ^ -511 the root of a square can be the next double
+square-below : rootOf (mul binary64 (double 0x1ffffffffa57d866) (double 0x1ffffffffa57d866)) ≡ double 0x1ffffffffa57d867
+unfolding rootOf floorRoot nearestRoot ofBits size mul
+square-below = refl

@@ -3,7 +3,7 @@ use mathlib.Core.Path.{_≡_, refl, sym, ap, _∙_, subst}
 use mathlib.Core.Logic.{inl, inr}
 use mathlib.Core.Bool.{Bool, true, false}
 use Prim.Native.Nat.{ℕ, zero, suc, _+_, _-_, _*_, _/_, _%_, _^_, _≤_, _<_}
-use native.Mathlib.Nat.{le-trans, le-of-eq, le-of-lt, lt-of-lt-of-le, lt-of-le-of-lt, lt-of-not-le, not-le-of-lt, le-of-suc-le-suc, eq-or-lt-of-le, eq-of-mul-eq-mul-right, mul-le-mul, mul-le-mul-right, mul-lt-mul-of-pos-right, mul-lt-mul-of-pos-left, mul-assoc, mul-pos, zero-lt-suc, add-comm}
+use native.Mathlib.Nat.{le-trans, le-of-eq, le-of-lt, lt-of-lt-of-le, lt-of-le-of-lt, lt-of-not-le, not-le-of-lt, le-of-suc-le-suc, eq-or-lt-of-le, eq-of-mul-eq-mul-right, mul-le-mul, mul-le-mul-right, mul-lt-mul-of-pos-right, mul-lt-mul-of-pos-left, mul-assoc, mul-pos, zero-lt-suc, add-comm, add-le-add}
 use native.Mathlib.Omega.{arith}
 use borrow.Author.Tests.{ltb-true, ltb-false}
 use lib.Dec.{T, ltb, lt→ltb}
@@ -15,8 +15,9 @@ use lib.Ieee.Fits.{down-pos}
 use lib.Ieee.Positive.{positive, positive-of-value}
 use Rattle.square_root.specs.Root.{Units, radicand, AsNear, NearestRoot, IsRoot, rootOf}
 use Rattle.square_root.specs.RootDigits.{Placed}
+use Rattle.square_root.specs.Claims.{NoneBetween}
 use Rattle.float64.proofs.Fields.{read, unitsAt}
-use Rattle.lists.proofs.Counting.{compared}
+use Rattle.lists.proofs.Counting.{compared, lt-or-le}
 use Rattle.square_root.proofs.RootNumbers.{square-le, pow-double}
 use Rattle.square_root.proofs.RootPlace.{rooted}
 use Rattle.float64.proofs.SameValue.{same-value}
@@ -176,6 +177,32 @@ only-root x y F p h =
   where
     turned : (b c : ℕ) → (b + c) * (b + c) ≡ (c + b) * (c + b)
     turned b c = ap (λ (s : ℕ). s * s) (add-comm b c)
+
+-- ---- no tie
+pub no-tie : (x y z : Float) (a b c : ℕ) → T (fits binary64 x) → Units x a → T (fits binary64 y) → Units y b → T (fits binary64 z) → Units z c → b < c → NoneBetween b c → (b + c) * (b + c) ≡ 4 * radicand a → ⊥
+no-tie x y z a b c F v G u H w l none e =
+    let r = rooted x F (positive-of-value x a (2 ^ 1074) v (some a e (mul-pos (sum l) (sum l)))) in
+    let t = r .q * 2 ^ r .j in
+    let n = radicand (r .a) in
+    let m : 4 * n ≡ (b + c) * (b + c) = ap (λ (k : ℕ). 4 * radicand k) (units-unique x (r .a) a (r .x-is) v) ∙ sym e in
+    elim (lt-or-le b t) [
+      | inr h ↦ not-le-of-lt (beyond n (r .q) (r .j) (r .placed) z c H w (lt-of-le-of-lt h l)) (le-trans (square-le (t + c) (b + c) (add-le-add h (le-of-eq refl))) (le-of-eq (sym m)))
+      | inl h ↦
+          elim (lt-or-le t c) [
+            | inl k ↦ none (rootOf x) t (root-fits x F) (r .y-is) h k
+            | inr k ↦ not-le-of-lt (short-of n (r .q) (r .j) (r .placed) y b G u h) (le-trans (le-of-eq m) (square-le (b + c) (t + b) (le-trans (le-of-eq (add-comm b c)) (add-le-add k (le-of-eq refl)))))
+          ]
+    ]
+  where
+    sum : b < c → 0 < b + c
+    sum h = omega arith
+
+    some : (a : ℕ) → (b + c) * (b + c) ≡ 4 * radicand a → 0 < (b + c) * (b + c) → 0 < a
+    some zero i s = absurd (none-left ((b + c) * (b + c)) i s)
+      where
+        none-left : (k : ℕ) → k ≡ 4 * radicand 0 → 0 < k → ⊥
+        none-left k i s = omega arith
+    some (suc a) i s = zero-lt-suc a
 
 -- ---- at every double
 pub root-is : (x : Float) → T (fits binary64 x) → IsRoot x (rootOf x)
