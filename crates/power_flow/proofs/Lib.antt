@@ -1,7 +1,3 @@
-pub mod Turns
-pub mod Entries
-pub mod Columns
-pub mod Passes
 pub mod Points
 pub mod Claims
 pub mod Tied

@@ -13,7 +13,7 @@ use Rattle.grid.specs.Simulator.{blankStation}
 use Rattle.grid.specs.declared.parts.ConverterStation.{ConverterStation}
 use Rattle.converter.specs.declared.answer.ConverterOperatingPoint.{ConverterOperatingPoint}
 use Rattle.converter.specs.Answer.{blankPoint}
-use Rattle.power_flow.specs.Balance.{current, currents}
+use Rattle.flow_voltages.specs.Balance.{current, currents}
 use Rattle.power_flow.specs.Solution.{operatingPoint, pointOf, operatingPoints}
 
 -- what the code computes of them, and their losses

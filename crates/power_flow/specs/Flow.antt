@@ -1,43 +1,39 @@
 -- 000's flow as a function of a grid. Definitions only.
-use Prim.Native.Nat.{ℕ}
+use Prim.Native.Nat.{ℕ, min}
 use mathlib.Core.Bool.{false, cond}
-use mathlib.Core.List.{List}
 use lib.Dec.{eqb}
 use lib.ListN.{replicate}
-use lib.Ieee.{Float}
 use Rattle.float64.specs.Constants.{nought}
-use Rattle.grid.specs.Simulator.{cablesOf}
-use Rattle.grid.specs.declared.parts.ConverterStation.{ConverterStation}
-use Rattle.grid.specs.declared.parts.DcCable.{DcCable}
 use Rattle.grid.specs.declared.simulator.DcSwitchingSimulator.{DcSwitchingSimulator}
 use Rattle.rules.specs.Studies.{flowRefusal}
 use Rattle.converter.specs.Answer.{blankPoint}
-use Rattle.power_flow.specs.declared.voltages.Voltages.{Voltages}
+use Rattle.flow_voltages.specs.declared.voltages.Voltages.{Voltages}
+use Rattle.flow_voltages.specs.Conductances.{stationCount, conductancesOf}
+use Rattle.flow_voltages.specs.Voltages.{voltagesOf}
 use Rattle.power_flow.specs.declared.flow.DcGridSolution.{DcGridSolution}
-use Rattle.power_flow.specs.Conductances.{matrix}
-use Rattle.power_flow.specs.Voltages.{voltages}
 use Rattle.power_flow.specs.Solution.{operatingPoints, cableLosses, totalLosses}
 
-abbrev pub conductancesOf : DcSwitchingSimulator → List Float
-conductancesOf g = matrix (g .«n_stations») (cablesOf g)
+-- how many cables a grid has: a count past the array takes all of it
+abbrev pub cableCount : DcSwitchingSimulator → ℕ
+cableCount g = min (g .«n_cables») 64
 
-abbrev pub voltagesOf : DcSwitchingSimulator → Voltages
-voltagesOf g = voltages (g .stations) (g .«n_stations») (conductancesOf g)
-
--- points and losses at voltages, of n stations and k cables with the conductances m
-unfoldable pub solutionAt : List ConverterStation → ℕ → List DcCable → ℕ → List Float → Voltages → DcGridSolution
-solutionAt stations n cables k m found =
+-- a grid's points and losses at voltages
+unfoldable pub solutionAt : DcSwitchingSimulator → Voltages → DcGridSolution
+solutionAt g found =
+    let n = stationCount g in
+    let m = conductancesOf g in
     let v = found .«v_dc_kv» in
     record {
-      «operating_points» = operatingPoints stations n m v;
-      «cable_losses_mw» = cableLosses cables k n v;
-      «total_losses_mw» = totalLosses stations n cables k m v;
+      «operating_points» = operatingPoints (g .stations) n m v;
+      «cable_losses_mw» = cableLosses (g .cables) (cableCount g) n v;
+      «total_losses_mw» = totalLosses (g .stations) n (g .cables) (cableCount g) m v;
       converged = found .converged;
       iterations = found .iterations;
     }
 
+-- at the voltages that the passes find
 abbrev pub solutionOf : DcSwitchingSimulator → DcGridSolution
-solutionOf g = solutionAt (g .stations) (g .«n_stations») (g .cables) (g .«n_cables») (conductancesOf g) (voltagesOf g)
+solutionOf g = solutionAt g (voltagesOf g)
 
 abbrev pub blankSolution : DcGridSolution
 blankSolution = record { «operating_points» = replicate 32 blankPoint; «cable_losses_mw» = replicate 64 nought; «total_losses_mw» = nought; converged = false; iterations = 0 }

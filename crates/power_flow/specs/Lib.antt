@@ -1,8 +1,3 @@
-pub mod Constants
-pub mod Conductances
-pub mod Symmetric
-pub mod Balance
-pub mod Voltages
 pub mod Solution
 pub mod Flow
 pub mod Claims

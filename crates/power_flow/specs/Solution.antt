@@ -18,7 +18,7 @@ use Rattle.converter.specs.Answer.{blankPoint}
 use Rattle.converter.specs.Lcc.{lccPoint}
 use Rattle.converter.specs.Vsc.{vscPoint}
 use Rattle.grid.specs.Cables.{resistance, cut}
-use Rattle.power_flow.specs.Balance.{current}
+use Rattle.flow_voltages.specs.Balance.{current}
 
 unfoldable pub isLcc : ConverterTopology → Bool
 isLcc Lcc = true

@@ -1,19 +1,15 @@
 // The flow of a grid.
 ghost use mathlib.Core.Path.{_≡_};
-ghost use Prim.Native.Nat.{_≤_, _<_};
 ghost use Rattle.rules.specs.Studies.{numberOf, flowRefusal};
-ghost use Rattle.power_flow.specs.Symmetric.{Symmetric};
 ghost use Rattle.power_flow.specs.Flow.{solutionAt, blankSolution, flowAnswer};
-use crate::balance::station_currents;
-use crate::conductances::conductances;
 use crate::solution;
-use crate::voltages;
-use crate::voltages::Voltages;
 use converter::ConverterOperatingPoint;
 use converter::no_point;
-use grid::ConverterStation;
-use grid::DcCable;
+use flow_voltages::Voltages;
+use flow_voltages::currents_at;
+use flow_voltages::find_voltages;
 use grid::DcSwitchingSimulator;
+use grid::present;
 use rules::Verdict;
 use rules::check_flow;
 use rules::number;
@@ -39,14 +35,10 @@ pub fn solve_dc_power_flow(g: DcSwitchingSimulator) -> FlowAnswer
 {
     let verdict = check_flow(g);
     if number(verdict) == 0 {
-        let mut m = [0.0; 1024];
-        let cables = g.cables;
-        let stations = g.stations;
-        conductances(&mut m, cables, g.n_cables, g.n_stations);
-        let found = voltages::find_voltages(stations, g.n_stations, &m);
+        let found = find_voltages(g);
         return FlowAnswer {
             verdict,
-            solution: solution_at(stations, g.n_stations, cables, g.n_cables, &m, found),
+            solution: solution_at(g, found),
         };
     }
     FlowAnswer {
@@ -55,24 +47,19 @@ pub fn solve_dc_power_flow(g: DcSwitchingSimulator) -> FlowAnswer
     }
 }
 
-// Operating points and losses at voltages: the cables' losses, then the stations'.
-fn solution_at(
-    stations: [ConverterStation; 32],
-    n: usize,
-    cables: [DcCable; 64],
-    n_cables: usize,
-    m: &[f64; 1024],
-    found: Voltages,
-) -> DcGridSolution
-    requires { ⌜ (0 < n) × (n ≤ 32) × («n_cables» ≤ 64) × Symmetric n (m .now) ⌝ }
-    ensures { λ r. ⌜ r ≡ solutionAt stations n cables «n_cables» (now (m .entry)) found ⌝ }
+// Operating points and losses of any grid at voltages: the cables' losses, then the stations'.
+fn solution_at(g: DcSwitchingSimulator, found: Voltages) -> DcGridSolution
+    ensures { λ r. ⌜ r ≡ solutionAt g found ⌝ }
 {
+    let n = present(g.n_stations, 32);
+    let n_cables = present(g.n_cables, 64);
+    let stations = g.stations;
+    let cables = g.cables;
     let v = found.v_dc_kv;
     let mut losses = [0.0; 64];
     solution::cable_losses(&mut losses, cables, n_cables, &v, n);
     let total = solution::sum_losses(&losses, n_cables);
-    let mut currents = [0.0; 32];
-    station_currents(&mut currents, m, &v, n);
+    let currents = currents_at(g, &v);
     let made = solution::operating_points(stations, &v, &currents, n, total);
     let points = made.points;
     DcGridSolution {

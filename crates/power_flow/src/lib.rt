@@ -1,9 +1,6 @@
-// The steady state of a grid: voltages by passes over the stations' power balance, then operating points and losses.
-mod balance;
-mod conductances;
+// The steady state of a grid: its voltages, then operating points and losses at them.
 mod flow;
 mod solution;
-mod voltages;
 
 pub use flow::DcGridSolution;
 pub use flow::FlowAnswer;

@@ -1,6 +1,6 @@
 // Operating points and losses at given voltages.
 ghost use mathlib.Core.Path.{_≡_};
-ghost use Prim.Native.Nat.{_≤_, _<_};
+ghost use Prim.Native.Nat.{_≤_};
 ghost use Rattle.lists.specs.Tables.{blank, padded};
 ghost use Rattle.float64.specs.Constants.{nought};
 ghost use Rattle.float64.specs.Arithmetic.{_⊗_, addedUp, sumOf, of};
@@ -103,7 +103,7 @@ pub fn cable_losses(
     v: &[f64; 32],
     n: usize,
 )
-    requires { ⌜ («n_cables» ≤ 64) × (0 < n) × (n ≤ 32) × (losses .now ≡ blank 64 nought) ⌝ }
+    requires { ⌜ («n_cables» ≤ 64) × (n ≤ 32) × (losses .now ≡ blank 64 nought) ⌝ }
     ensures { λ _. ⌜ now (losses .exit) ≡ cableLosses cables «n_cables» n (now (v .entry)) ⌝ }
 {
     let mut i = 0;
@@ -116,7 +116,7 @@ pub fn cable_losses(
 
 // An end at or past the count is cut to the last station.
 fn cable_loss(c: DcCable, v: &[f64; 32], n: usize) -> f64
-    requires { ⌜ (0 < n) × (n ≤ 32) ⌝ }
+    requires { ⌜ n ≤ 32 ⌝ }
     ensures { λ r. ⌜ r ≡ cableLoss n (now (v .entry)) c ⌝ }
 {
     let from = cut_end(c.from_station, n);

@@ -2,29 +2,34 @@
 use Rattle.power_flow.proofs.Points.{points-from, total-from, sum-padded}
 use Rattle.power_flow.specs.Flow.{solutionAt}
 use Rattle.power_flow.specs.Solution.{lossOf, totalLosses}
+use Rattle.flow_voltages.specs.Balance.{currents}
+use Rattle.flow_voltages.specs.Conductances.{conductancesOf}
 use Rattle.float64.specs.Arithmetic.{sumOf}
+use Prim.Native.Nat.{_≤_}
 use native.Mathlib.Omega.{arith}
 use mathlib.Core.Path.{_≡_, refl, _∙_}
-use Prim.Native.Nat.{_-_}
 use Rattle.lists.specs.Tables.{blank}
 use borrow.Author.Needs.{needs}
 use Rattle.power_flow.proofs.flow.solution_at.Statement.{statement}
 use Rattle.power_flow.proofs.flow.solution_at.Tie as tie
 
+present-requires : tie.Need-present-requires
+present-requires c κs = search needs
+
+present-requires-2 : tie.Need-present-requires-2
+present-requires-2 c κs = search needs
+
 cable-losses-requires : tie.Need-cable-losses-requires
 unfolding blank
 cable-losses-requires c κs =
-    let s = c .before .before .before in
-    (s .pre .2, s .pre .0, s .pre .1, refl)
+    let k = c .before .before .before .before .before in
+    (omega (arith, k .present2 .ensures), omega (arith, k .before .present .ensures), refl)
 
 sum-losses-requires : tie.Need-sum-losses-requires
 sum-losses-requires c κs = search needs
 
-station-currents-requires : tie.Need-station-currents-requires
-unfolding blank
-station-currents-requires c κs =
-    let s = c .before .before .before .before .before .before .before .before in
-    (s .pre .1, s .pre .3, refl)
+currents-at-requires : tie.Need-currents-at-requires
+currents-at-requires c κs = search needs
 
 operating-points-requires : tie.Need-operating-points-requires
 operating-points-requires c κs = search needs
@@ -33,25 +38,31 @@ returns : tie.Need-returns
 unfolding solutionAt totalLosses
 returns c =
     let p = c .before in
-    let t = p .before .before .before in
-    let q = t .before .before .before in
+    let i = p .before .before .before in
+    let q = i .before .before in
     let l = q .before .before in
-    let s = l .before .before .before .before in
-    let a = s .args in
-    let n = a .n in
-    let m = a .m .now in
-    let v = a .found .«v_dc_kv» in
-    let points = points-from (a .stations) n m v (s .pre .1) (t .station-currents .ensures) (p .operating-points .ensures .0) in
-    let total = total-from (a .stations) n m v (s .pre .1) (t .station-currents .ensures) _ (p .operating-points .ensures .1) in
-    let sum : _ ≡ sumOf (lossOf (a .cables) n v) (a .«n-cables») = q .sum-losses .ensures ∙ rw (l .cable-losses .ensures) (sum-padded 64 (a .«n-cables») (lossOf (a .cables) n v) (s .pre .2) (a .«n-cables») (omega arith)) in
-    rw (l .cable-losses .ensures, points, total, sum)
+    let k = l .before .before .before .before .before .before in
+    let n = k .before in
+    let s = n .before in
+    let g = s .args .g in
+    let v = s .args .found .«v_dc_kv» in
+    let few : n .present .result ≤ 32 = omega (arith, n .present .ensures) in
+    let flows : _ ≡ currents (conductancesOf g) (n .present .result) v = i .currents-at .ensures ∙ rw (n .present .ensures) in
+    let points = points-from (g .stations) (n .present .result) (conductancesOf g) v few flows (p .operating-points .ensures .0) in
+    let total = total-from (g .stations) (n .present .result) (conductancesOf g) v few flows _ (p .operating-points .ensures .1) in
+    let sum : _ ≡ sumOf (lossOf (g .cables) (n .present .result) v) (k .present2 .result) =
+    q .sum-losses .ensures ∙ rw (l .cable-losses .ensures) (sum-padded 64 (k .present2 .result) (lossOf (g .cables) (n .present .result) v) (omega (arith, k .present2 .ensures)) (k .present2 .result) (omega arith))
+    in
+    rw (l .cable-losses .ensures, points, total, sum, k .present2 .ensures, n .present .ensures)
 
 pub solution-at-spec : {M : Type 1} → statement M
 solution-at-spec =
     tie.close
     (tie.spec
+    present-requires
+    present-requires-2
     cable-losses-requires
     sum-losses-requires
-    station-currents-requires
+    currents-at-requires
     operating-points-requires
     returns)

@@ -24,7 +24,7 @@ long : (c : tie.Start Inv-loop μ-loop) → length (c .args .t2) ≡ 64
 long c = search (needs, unmapped)
 
 loop-holds : tie.Need-loop-holds Inv-loop μ-loop
-loop-holds c = (omega arith, rw (c .pre .3) (upto-none _ _))
+loop-holds c = (omega arith, rw (c .pre .2) (upto-none _ _))
 
 mul-c : tie.Need-mul-c Inv-loop μ-loop
 mul-c c = search needs

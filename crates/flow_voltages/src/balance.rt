@@ -1,0 +1,102 @@
+// Currents, powers and mismatches at given voltages.
+ghost use mathlib.Core.Path.{_≡_};
+ghost use Prim.Native.Nat.{_≤_, _<_, _-_};
+ghost use lib.Ieee.{nan};
+ghost use Rattle.lists.specs.Tables.{blank, over};
+ghost use Rattle.float64.specs.Constants.{nought};
+ghost use Rattle.float64.specs.Arithmetic.{_⊕_, _⊖_, _⊗_, of};
+ghost use Rattle.flow_voltages.specs.Conductances.{cell};
+ghost use Rattle.flow_voltages.specs.Balance.{currents, currentsOf, butFirst, mismatches, largest};
+ghost use Rattle.flow_voltages.specs.Symmetric.{Symmetric};
+use crate::conductances::conductances;
+use float64::abs;
+use float64::max;
+use grid::DcSwitchingSimulator;
+use grid::present;
+
+// The current of every station of any grid at given voltages.
+pub fn currents_at(g: DcSwitchingSimulator, v: &[f64; 32]) -> [f64; 32]
+    ensures { λ r. ⌜ r ≡ currentsOf g (now (v .entry)) ⌝ }
+{
+    let n = present(g.n_stations, 32);
+    let n_cables = present(g.n_cables, 64);
+    let cables = g.cables;
+    let mut m = [0.0; 1024];
+    conductances(&mut m, cables, n_cables, n);
+    let mut sums = [0.0; 32];
+    station_currents(&mut sums, &m, v, n);
+    sums
+}
+
+// The current of every station, into zeros. Column after column: for each station the products are added in the same order as along its
+// row, and a column is added to all stations at once.
+fn station_currents(sums: &mut [f64; 32], m: &[f64; 1024], v: &[f64; 32], n: usize)
+    requires { ⌜ (n ≤ 32) × Symmetric n (m .now) × (sums .now ≡ blank 32 nought) ⌝ }
+    ensures { λ _. ⌜ now (sums .exit) ≡ currents (now (m .entry)) n (now (v .entry)) ⌝ }
+{
+    let mut j = 0;
+    while j < n {
+        add_column(sums, m, j, v[j], n);
+        j += 1;
+    }
+}
+
+fn add_column(sums: &mut [f64; 32], m: &[f64; 1024], j: usize, x: f64, n: usize)
+    requires { ⌜ (j < 32) × (n ≤ 32) ⌝ }
+    ensures { λ _. ⌜ now (sums .exit) ≡ over n (λ i. of (now (sums .entry)) i ⊕ cell (now (m .entry)) j i ⊗ x) nan (now (sums .entry)) ⌝ }
+{
+    let mut i = 0;
+    while i < n {
+        sums[i] = sums[i] + m[j * 32 + i] * x;
+        i += 1;
+    }
+}
+
+// What the power of each station but the first lacks at given voltages, into zeros; and the largest of it.
+pub fn mismatches_at(
+    d: &mut [f64; 32],
+    m: &[f64; 1024],
+    wanted: &[f64; 32],
+    v: &[f64; 32],
+    n: usize,
+) -> f64
+    requires { ⌜ (n ≤ 32) × Symmetric n (m .now) × (d .now ≡ blank 32 nought) ⌝ }
+    ensures { λ r. ⌜ (now (d .exit) ≡ mismatches (now (m .entry)) (now (wanted .entry)) n (now (v .entry))) × (r ≡ largest (mismatches (now (m .entry)) (now (wanted .entry)) n (now (v .entry))) (n - 1)) ⌝ }
+{
+    let mut currents = [0.0; 32];
+    station_currents(&mut currents, m, v, n);
+    power_mismatches(d, wanted, v, &currents, n);
+    largest_mismatch(d, n)
+}
+
+// From the stations' currents.
+fn power_mismatches(
+    d: &mut [f64; 32],
+    wanted: &[f64; 32],
+    v: &[f64; 32],
+    currents: &[f64; 32],
+    n: usize,
+)
+    requires { ⌜ (n ≤ 32) × (d .now ≡ blank 32 nought) ⌝ }
+    ensures { λ _. ⌜ now (d .exit) ≡ butFirst n (λ i. of (now (wanted .entry)) i ⊖ of (now (v .entry)) i ⊗ of (now (currents .entry)) i) ⌝ }
+{
+    let mut i = 0;
+    while i + 1 < n {
+        i += 1;
+        d[i] = wanted[i] - v[i] * currents[i];
+    }
+}
+
+// A NaN among them is passed over.
+fn largest_mismatch(d: &[f64; 32], n: usize) -> f64
+    requires { ⌜ n ≤ 32 ⌝ }
+    ensures { λ r. ⌜ r ≡ largest (now (d .entry)) (n - 1) ⌝ }
+{
+    let mut most = 0.0;
+    let mut i = 0;
+    while i + 1 < n {
+        i += 1;
+        most = max(most, abs(d[i]));
+    }
+    most
+}
