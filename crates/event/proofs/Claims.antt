@@ -17,8 +17,8 @@ use Rattle.portions.specs.Stopping.{Stepper, joined}
 use Rattle.portions.specs.Calls.{Called, Chain, last, and, handed}
 use Rattle.portions.specs.Course.{Course, itemsBefore}
 use Rattle.portions.proofs.Course.{course-claims, chain-and}
-use Rattle.event_step.specs.Fault.{faultBody, faultAfter}
-use Rattle.event_step.specs.Switching.{switchingBody, switchingAfter}
+use Rattle.fault_step.specs.Fault.{faultBody, faultAfter}
+use Rattle.switching_step.specs.Switching.{switchingBody, switchingAfter}
 use Rattle.event.specs.declared.result.DcTransientResult.{DcTransientResult}
 use Rattle.event.specs.Records.{recordOf}
 use Rattle.event.specs.FaultRuns.{faultRunRefused, faultStepper, faultRunAfter, startedFaultRun, blankFaultRun, faultFigures, faultResults, figuresSoFar}

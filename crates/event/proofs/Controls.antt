@@ -26,9 +26,9 @@ use Rattle.transient.specs.declared.state.DcTransientState.{DcTransientState}
 use Rattle.network.specs.Capacitance.{ownCapacitance, joinedCapacitance}
 use Rattle.transient.specs.Derivatives.{derivatives}
 use Rattle.transient.specs.Rk4.{ahead, blended, rk4, raised, newState, stepBy}
-use Rattle.event_step.specs.declared.variables.FaultVariables.{FaultVariables}
-use Rattle.event_step.specs.Fault.{beforeInception, body, faultBody, beforeLoop, faultAfter}
-use Rattle.event_step.specs.Switching.{operatedState, switchBody, switchingBody, beforeSwitching, switchingAfter}
+use Rattle.fault_step.specs.declared.variables.FaultVariables.{FaultVariables}
+use Rattle.fault_step.specs.Fault.{beforeInception, body, faultBody, beforeLoop, faultAfter}
+use Rattle.switching_step.specs.Switching.{operatedState, switchBody, switchingBody, beforeSwitching, switchingAfter}
 use Rattle.event.specs.declared.fault_run.FaultRun.{FaultRun}
 use Rattle.event.specs.declared.fault_run.AdvancedFaultRun.{AdvancedFaultRun}
 use Rattle.event.specs.declared.result.DcTransientResult.{DcTransientResult}

@@ -13,12 +13,12 @@ use Rattle.rules.proofs.Sizes.{size-claims}
 use Rattle.portions.specs.declared.Stop.{Stop}
 use Rattle.portions.specs.Stopping.{memoryOf}
 use Rattle.portions.proofs.Loop.{Came}
-use Rattle.event_step.specs.declared.variables.FaultVariables.{FaultVariables}
-use Rattle.event_step.specs.declared.fault_start.FaultPlan.{FaultPlan}
-use Rattle.event_step.specs.Fault.{faultBody}
-use Rattle.event_step.specs.Plans.{planOf, planStep}
-use Rattle.event_step.specs.Quiet.{waitsBy, restsBy, quietStep}
-use Rattle.event_step.proofs.Claims.{plan-claims}
+use Rattle.fault_step.specs.declared.variables.FaultVariables.{FaultVariables}
+use Rattle.fault_step.specs.declared.plan.FaultPlan.{FaultPlan}
+use Rattle.fault_step.specs.Fault.{faultBody}
+use Rattle.fault_step.specs.Plans.{planOf, planStep}
+use Rattle.fault_step.specs.Quiet.{waitsBy, restsBy, quietStep}
+use Rattle.fault_step.proofs.Claims.{plan-claims}
 use Rattle.event.specs.declared.fault_run.FaultRun.{FaultRun}
 use Rattle.event.specs.declared.fault_run.AdvancedFaultRun.{AdvancedFaultRun}
 use Rattle.event.specs.Records.{recordOf}

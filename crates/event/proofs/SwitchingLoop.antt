@@ -11,11 +11,11 @@ use Rattle.rules.proofs.Sizes.{size-claims}
 use Rattle.portions.specs.declared.Stop.{Stop}
 use Rattle.portions.specs.Stopping.{memoryOf}
 use Rattle.portions.proofs.Loop.{Came}
-use Rattle.event_step.specs.declared.variables.SwitchingVariables.{SwitchingVariables}
-use Rattle.event_step.specs.declared.switching_start.SwitchingPlan.{SwitchingPlan}
-use Rattle.event_step.specs.Switching.{switchingBody}
-use Rattle.event_step.specs.Plans.{switchingPlanOf, switchingPlanStep}
-use Rattle.event_step.proofs.Claims.{plan-claims}
+use Rattle.switching_step.specs.declared.variables.SwitchingVariables.{SwitchingVariables}
+use Rattle.switching_step.specs.declared.plan.SwitchingPlan.{SwitchingPlan}
+use Rattle.switching_step.specs.Switching.{switchingBody}
+use Rattle.switching_step.specs.Plans.{switchingPlanOf, switchingPlanStep}
+use Rattle.switching_step.proofs.Claims.{plan-claims}
 use Rattle.event.specs.declared.switching_run.SwitchingRun.{SwitchingRun}
 use Rattle.event.specs.declared.switching_run.AdvancedSwitchingRun.{AdvancedSwitchingRun}
 use Rattle.event.specs.Records.{recordOf}

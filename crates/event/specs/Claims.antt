@@ -15,8 +15,8 @@ use Rattle.portions.specs.Stopping.{numberOf, Stepper, joined}
 use Rattle.portions.specs.Tally.{runTally}
 use Rattle.portions.specs.Calls.{Called, Made, Chain, last, reported, and, handed, seen}
 use Rattle.transient.specs.declared.state.DcTransientState.{DcTransientState}
-use Rattle.event_step.specs.Fault.{faultAfter}
-use Rattle.event_step.specs.Switching.{switchingAfter}
+use Rattle.fault_step.specs.Fault.{faultAfter}
+use Rattle.switching_step.specs.Switching.{switchingAfter}
 use Rattle.event.specs.declared.fault_run.FaultRun.{FaultRun}
 use Rattle.event.specs.declared.switching_run.SwitchingRun.{SwitchingRun}
 use Rattle.event.specs.declared.result.DcTransientResult.{DcTransientResult}

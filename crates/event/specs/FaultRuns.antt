@@ -15,8 +15,8 @@ use Rattle.timing.specs.Steps.{durationMs, stepsOf, countedTo, recorded, record
 use Rattle.rules.specs.Studies.{faultRefusal}
 use Rattle.portions.specs.Stopping.{Stepper, answerOf}
 use Rattle.transient.specs.declared.state.DcTransientState.{DcTransientState}
-use Rattle.event_step.specs.declared.variables.FaultVariables.{FaultVariables}
-use Rattle.event_step.specs.Fault.{faultBody, faultAfter}
+use Rattle.fault_step.specs.declared.variables.FaultVariables.{FaultVariables}
+use Rattle.fault_step.specs.Fault.{faultBody, faultAfter}
 use Rattle.event.specs.declared.fault_run.FaultRun.{FaultRun}
 use Rattle.event.specs.declared.fault_run.AdvancedFaultRun.{AdvancedFaultRun}
 use Rattle.event.specs.declared.result.DcTransientResult.{DcTransientResult}

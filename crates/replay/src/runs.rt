@@ -12,9 +12,9 @@ use crate::studies;
 use event::DcTransientResult;
 use event::FaultRun;
 use event::SwitchingRun;
-use event_step::FaultVariables;
-use event_step::SwitchingVariables;
+use fault_step::FaultVariables;
 use portions::Stop;
+use switching_step::SwitchingVariables;
 use transient::DcTransientState;
 
 // The most numbers of lent memory.

@@ -2,8 +2,8 @@
 use Rattle.event.specs.FaultRuns.{faultStepper}
 use Rattle.event.proofs.Turns.{Inside, inside, position, out-ok, leaves, more, more-steps, fits, goes}
 use Rattle.event.proofs.FaultLoop.{faultKind, accepted, not-past, by-plan, quietly, still, returned}
-use Rattle.event_step.specs.Plans.{planStep}
-use Rattle.event_step.specs.Quiet.{restsBy}
+use Rattle.fault_step.specs.Plans.{planStep}
+use Rattle.fault_step.specs.Quiet.{restsBy}
 use Rattle.rules.proofs.Claims.{accepted-claims}
 use Rattle.rules.proofs.Sizes.{size-claims}
 use Rattle.portions.proofs.Loop.{came-refused}

@@ -2,7 +2,7 @@
 use Rattle.event.specs.SwitchingRuns.{switchingStepper}
 use Rattle.event.proofs.Turns.{Inside, inside, position, out-ok, leaves, more, more-steps, fits, goes}
 use Rattle.event.proofs.SwitchingLoop.{switchingKind, accepted, not-past, by-plan, returned}
-use Rattle.event_step.specs.Plans.{switchingPlanStep}
+use Rattle.switching_step.specs.Plans.{switchingPlanStep}
 use Rattle.rules.proofs.Claims.{accepted-claims}
 use Rattle.rules.proofs.Sizes.{size-claims}
 use Rattle.portions.proofs.Loop.{came-refused}

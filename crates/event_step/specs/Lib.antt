@@ -1,6 +1,0 @@
-pub mod Constants
-pub mod Fault
-pub mod Switching
-pub mod Plans
-pub mod Quiet
-pub mod Claims

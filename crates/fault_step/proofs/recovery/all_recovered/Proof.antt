@@ -1,0 +1,84 @@
+-- `all_recovered` meets its contract. Assumes nothing.
+use Rattle.lists.specs.Scans.{some}
+use Rattle.lists.proofs.Scanning.{some-found, some-none}
+use Rattle.lists.proofs.Counting.{at-end}
+use Rattle.float64.specs.Arithmetic.{of, _⊗_}
+use Rattle.fault_step.specs.Constants.{recoveredPart}
+use lib.Ieee.{Float, le}
+use native.Mathlib.Omega.{arith}
+use Prim.Native.Nat.{ℕ, _-_, _≤_}
+use mathlib.Core.Bool.{Bool, false, not}
+use mathlib.Core.List.{List}
+use mathlib.Core.Path.{_≡_, refl, sym, ap, _∙_}
+use borrow.Author.Needs.{needs}
+use Rattle.fault_step.proofs.recovery.all_recovered.Statement.{statement}
+use Rattle.fault_step.proofs.recovery.all_recovered.Tie as tie
+
+-- a voltage has not recovered
+abbrev behind : List Float → List Float → ℕ → Bool
+behind y rated i = not (le (recoveredPart ⊗ of rated i) (of y i))
+
+abbrev Inv-loop : tie.InvT-loop
+Inv-loop y rated n i₀ i = (i ≤ n) × (some i (behind y rated) ≡ false)
+
+abbrev μ-loop : tie.MeasureT-loop
+μ-loop y rated n i₀ i = n - i
+
+loop-holds : tie.Need-loop-holds Inv-loop μ-loop
+loop-holds c = (omega arith, refl)
+
+mul-has-recovered : tie.Need-mul-has-recovered Inv-loop μ-loop
+mul-has-recovered c = search needs
+
+element-copy-out-has-recovered : tie.Need-element-copy-out-has-recovered Inv-loop μ-loop
+element-copy-out-has-recovered c = search needs
+
+mul-has-recovered-2 : tie.Need-mul-has-recovered-2 Inv-loop μ-loop
+mul-has-recovered-2 c = search needs
+
+element-copy-out-has-recovered-2 : tie.Need-element-copy-out-has-recovered-2 Inv-loop μ-loop
+element-copy-out-has-recovered-2 c = search needs
+
+has-recovered-requires : tie.Need-has-recovered-requires Inv-loop μ-loop
+has-recovered-requires c κs = search needs
+
+add-i : tie.Need-add-i Inv-loop μ-loop
+add-i c = search needs
+
+loop-less : tie.Need-loop-less Inv-loop μ-loop
+loop-less c = search needs
+
+loop-again : tie.Need-loop-again Inv-loop μ-loop
+loop-again c =
+    let l = c .before .before .before .before .before in
+    let a = l .before .args in
+    (omega arith, some-none (behind (a .y .now) (a .rated .now)) (l .loop .i) (l .loop .inv .1) (ap not (sym (c .before .has-recovered .ensures) ∙ c .if1 .taken)))
+
+returns : tie.Need-returns Inv-loop μ-loop
+returns c =
+    let l = c .before .before .before .before .before in
+    let a = l .before .args in
+    ap not (sym (some-found (behind (a .y .now) (a .rated .now)) (a .n) (l .loop .i) (c .before .before .before .before .loop-test .taken) (ap not (sym (c .before .has-recovered .ensures) ∙ c .if1 .left))))
+
+returns-2 : tie.Need-returns-2 Inv-loop μ-loop
+returns-2 c =
+    let a = c .before .before .args in
+    at-end (λ n. not (some n (behind (a .y .now) (a .rated .now)))) (c .before .loop .inv .0) (c .loop-test .left) (ap not (sym (c .before .loop .inv .1)))
+
+pub all-recovered-spec : {M : Type 1} → statement M
+all-recovered-spec =
+    tie.close
+    (tie.spec
+    Inv-loop
+    μ-loop
+    loop-holds
+    mul-has-recovered
+    element-copy-out-has-recovered
+    mul-has-recovered-2
+    element-copy-out-has-recovered-2
+    has-recovered-requires
+    add-i
+    loop-less
+    loop-again
+    returns
+    returns-2)

@@ -1,0 +1,79 @@
+-- `recover_voltages` meets its contract. Assumes nothing.
+use Rattle.lists.proofs.Fills.{upto, upto-none, upto-more, upto-over, getD-upto-out}
+use Rattle.lists.proofs.Counting.{at-end}
+use native.Mathlib.Omega.{arith}
+use Prim.Native.Nat.{_-_, _≤_}
+use mathlib.Core.Path.{_≡_, _∙_}
+use Rattle.float64.specs.Arithmetic.{of}
+use Rattle.fault_step.specs.Fault.{recovering}
+use lib.Ieee.{nan}
+use borrow.Author.Needs.{needs}
+use Rattle.fault_step.proofs.recovery.recover_voltages.Statement.{statement}
+use Rattle.fault_step.proofs.recovery.recover_voltages.Tie as tie
+
+abbrev Inv-loop : tie.InvT-loop
+Inv-loop y₀ rated n i₀ y i = (i ≤ n) × (y ≡ upto i (λ k. recovering (of rated k) (of y₀ k)) y₀)
+
+abbrev μ-loop : tie.MeasureT-loop
+μ-loop y₀ rated n i₀ y i = n - i
+
+loop-holds : tie.Need-loop-holds Inv-loop μ-loop
+loop-holds c = (omega arith, upto-none _ _)
+
+mul-recovered : tie.Need-mul-recovered Inv-loop μ-loop
+mul-recovered c = search needs
+
+element-copy-out-recovered : tie.Need-element-copy-out-recovered Inv-loop μ-loop
+element-copy-out-recovered c = search needs
+
+mul-recovered-2 : tie.Need-mul-recovered-2 Inv-loop μ-loop
+mul-recovered-2 c = search needs
+
+element-copy-out-recovered-2 : tie.Need-element-copy-out-recovered-2 Inv-loop μ-loop
+element-copy-out-recovered-2 c = search needs
+
+recovered-requires : tie.Need-recovered-requires Inv-loop μ-loop
+recovered-requires c κs = search needs
+
+mul-y : tie.Need-mul-y Inv-loop μ-loop
+mul-y c = search needs
+
+element-write-y : tie.Need-element-write-y Inv-loop μ-loop
+element-write-y c = search needs
+
+add-i : tie.Need-add-i Inv-loop μ-loop
+add-i c = search needs
+
+loop-less : tie.Need-loop-less Inv-loop μ-loop
+loop-less c = search needs
+
+loop-again : tie.Need-loop-again Inv-loop μ-loop
+loop-again c =
+    let l = c .before .before .before .before in
+    let a = l .before .args in
+    (omega arith, upto-more _ _ _ (l .loop .inv .1) (rw (c .recovered .ensures, l .loop .inv .1, getD-upto-out (l .loop .i) _ (a .y .now) nan (l .loop .i) (omega arith))))
+
+returns : tie.Need-returns Inv-loop μ-loop
+returns c =
+    let a = c .before .before .args in
+    at-end (λ k. upto k (λ i. recovering (of (a .rated .now) i) (of (a .y .now) i)) (a .y .now)) (c .before .loop .inv .0) (c .loop-test .left) (c .before .loop .inv .1)
+    ∙ upto-over (a .n) _ nan (a .y .now)
+
+pub recover-voltages-spec : {M : Type 1} → statement M
+recover-voltages-spec =
+    tie.close
+    (tie.spec
+    Inv-loop
+    μ-loop
+    loop-holds
+    mul-recovered
+    element-copy-out-recovered
+    mul-recovered-2
+    element-copy-out-recovered-2
+    recovered-requires
+    mul-y
+    element-write-y
+    add-i
+    loop-less
+    loop-again
+    returns)

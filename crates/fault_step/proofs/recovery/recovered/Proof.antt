@@ -1,0 +1,16 @@
+-- `recovered` meets its contract. Assumes nothing.
+use borrow.Author.Needs.{needs}
+use Rattle.fault_step.proofs.recovery.recovered.Statement.{statement}
+use Rattle.fault_step.proofs.recovery.recovered.Tie as tie
+
+min-requires : tie.Need-min-requires
+min-requires c κs = search needs
+
+returns : tie.Need-returns
+returns c = rw (c .before .if1 .taken, c .min .ensures)
+
+returns-2 : tie.Need-returns-2
+returns-2 c = rw (c .if1 .left)
+
+pub recovered-spec : {M : Type 1} → statement M
+recovered-spec = tie.close (tie.spec min-requires returns returns-2)

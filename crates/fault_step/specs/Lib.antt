@@ -1,0 +1,5 @@
+pub mod Constants
+pub mod Fault
+pub mod Plans
+pub mod Quiet
+pub mod Claims

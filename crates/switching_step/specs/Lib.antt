@@ -1,0 +1,4 @@
+pub mod Constants
+pub mod Switching
+pub mod Plans
+pub mod Claims
