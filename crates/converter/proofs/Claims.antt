@@ -8,6 +8,7 @@ use Rattle.float64.specs.Choice.{maxOf}
 use Rattle.float64.proofs.Interval.{max-at-least}
 use Rattle.rules.specs.Studies.{pointRefusal}
 use Rattle.converter.specs.Constants.{least}
+use Rattle.converter.specs.Lcc.{lccPoint}
 use Rattle.converter.specs.Vsc.{vscPoint}
 use Rattle.converter.specs.Claims.{PointClaims}
 
@@ -16,12 +17,13 @@ unfolding isNan ofBits
 at-least v = is-true (le least (maxOf v least)) (max-at-least v least tt)
 
 pub point-claims : PointClaims
-unfolding vscPoint
+unfolding lccPoint vscPoint
 point-claims =
     record {
       lcc-accepted = λ s i h. rw (eq-eqb (pointRefusal s) 0 h);
       lcc-refused = λ s i h. rw h;
       vsc-accepted = λ s p v h. rw (eq-eqb (pointRefusal s) 0 h);
       vsc-refused = λ s p v h. rw h;
+      lcc-voltage = λ s i h. rw (eq-eqb (pointRefusal s) 0 h);
       vsc-voltage = λ s p v. at-least v;
     }

@@ -7,10 +7,12 @@ use contract.Lifetimes.{Lfts}
 use borrow.Fn.World.{ArgsD, ResD}
 use borrow.Fn.Kinds.{endedOf}
 use denote.Triple.Clauses.{AtExit}
+use Rattle.float64.specs.Constants.{pi}
+use Rattle.float64.specs.Arithmetic.{_⊖_, _⊗_, _⊘_}
 use Rattle.rules.specs.Studies.{numberOf}
-use Rattle.converter.specs.Constants.{least}
+use Rattle.converter.specs.Constants.{three, least}
 use Rattle.converter.specs.Answer.{blankPoint}
-use Rattle.converter.specs.Lcc.{lccPoint}
+use Rattle.converter.specs.Lcc.{cosAlpha, vd0, xc, lccPoint}
 use Rattle.converter.specs.Vsc.{vscPoint}
 use Rattle.converter.proofs.Claims.{point-claims}
 use Rattle.converter.proofs.lcc.lcc_operating_point as lcc-contract
@@ -19,6 +21,12 @@ use Rattle.converter.proofs.lcc.lcc_operating_point.Reads as lcc-reads
 use Rattle.converter.proofs.vsc.vsc_operating_point as vsc-contract
 use Rattle.converter.proofs.vsc.vsc_operating_point.Kinds as vsc-kinds
 use Rattle.converter.proofs.vsc.vsc_operating_point.Reads as vsc-reads
+use Rattle.converter.proofs.lcc.lcc_point as lcc-point-contract
+use Rattle.converter.proofs.lcc.lcc_point.Reads as lcc-point-reads
+use Rattle.converter.proofs.vsc.vsc_point as vsc-point-contract
+use Rattle.converter.proofs.vsc.vsc_point.Reads as vsc-point-reads
+use Rattle.converter.proofs.answer.no_point as no-point-contract
+use Rattle.converter.proofs.answer.no_point.Reads as no-point-reads
 
 module _ (κs : Lfts 0) (a : ArgsD lcc-contract.signature κs) (r : ResD lcc-contract.signature κs) (e : AtExit (endedOf 0 lcc-kinds.ps lcc-kinds.r) κs) where
   pub lcc-any : lcc-reads.Asked κs a
@@ -29,6 +37,10 @@ module _ (κs : Lfts 0) (a : ArgsD lcc-contract.signature κs) (r : ResD lcc-con
 
   pub lcc-refused : lcc-reads.Learnt κs a r e → numberOf (r .verdict) ≡ 6 → r .point ≡ blankPoint
   lcc-refused h k = h .1 ∙ point-claims .lcc-refused (a .0) (a .1 .0) (sym (h .0) ∙ k)
+
+  -- V = Vd0·cos α - (3/π)·Xc·I
+  pub lcc-voltage : lcc-reads.Learnt κs a r e → numberOf (r .verdict) ≡ 0 → r .point .«v_dc_kv» ≡ (vd0 (a .0) ⊗ cosAlpha (a .0)) ⊖ (((three ⊘ pi) ⊗ xc (a .0)) ⊗ a .1 .0)
+  lcc-voltage h k = rw (h .1) (point-claims .lcc-voltage (a .0) (a .1 .0) (sym (h .0) ∙ k))
 
 module _ (κs : Lfts 0) (a : ArgsD vsc-contract.signature κs) (r : ResD vsc-contract.signature κs) (e : AtExit (endedOf 0 vsc-kinds.ps vsc-kinds.r) κs) where
   pub vsc-any : vsc-reads.Asked κs a
@@ -42,3 +54,13 @@ module _ (κs : Lfts 0) (a : ArgsD vsc-contract.signature κs) (r : ResD vsc-con
 
   pub vsc-voltage : vsc-reads.Learnt κs a r e → numberOf (r .verdict) ≡ 0 → le least (r .point .«v_dc_kv») ≡ true
   vsc-voltage h k = rw (vsc-accepted h k) (point-claims .vsc-voltage (a .0) (a .1 .0) (a .1 .1 .0))
+
+-- the points of any station, accepted or not
+pub lcc-point-any : (κs : Lfts 0) (a : ArgsD lcc-point-contract.signature κs) → lcc-point-reads.Asked κs a
+lcc-point-any κs a = tt
+
+pub vsc-point-any : (κs : Lfts 0) (a : ArgsD vsc-point-contract.signature κs) → vsc-point-reads.Asked κs a
+vsc-point-any κs a = tt
+
+pub no-point-any : (κs : Lfts 0) (a : ArgsD no-point-contract.signature κs) → no-point-reads.Asked κs a
+no-point-any κs a = tt

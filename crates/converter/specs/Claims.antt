@@ -2,11 +2,13 @@
 use mathlib.Core.Path.{_≡_}
 use mathlib.Core.Bool.{true}
 use lib.Ieee.{Float, le}
+use Rattle.float64.specs.Constants.{pi}
+use Rattle.float64.specs.Arithmetic.{_⊖_, _⊗_, _⊘_}
 use Rattle.grid.specs.declared.parts.ConverterStation.{ConverterStation}
 use Rattle.rules.specs.Studies.{pointRefusal}
-use Rattle.converter.specs.Constants.{least}
+use Rattle.converter.specs.Constants.{three, least}
 use Rattle.converter.specs.Answer.{blankPoint}
-use Rattle.converter.specs.Lcc.{lccPoint, lccAnswer}
+use Rattle.converter.specs.Lcc.{cosAlpha, vd0, xc, lccPoint, lccAnswer}
 use Rattle.converter.specs.Vsc.{vscPoint, vscAnswer}
 
 pub record PointClaims : Type 0 where
@@ -15,5 +17,7 @@ pub record PointClaims : Type 0 where
   pub lcc-refused : (s : ConverterStation) (i : Float) → pointRefusal s ≡ 6 → lccAnswer s i ≡ blankPoint
   pub vsc-accepted : (s : ConverterStation) (p v : Float) → pointRefusal s ≡ 0 → vscAnswer s p v ≡ vscPoint s p v
   pub vsc-refused : (s : ConverterStation) (p v : Float) → pointRefusal s ≡ 6 → vscAnswer s p v ≡ blankPoint
+  -- "LCC: V = Vd0·cos α - (3/π)·Xc·I", every operation rounded once, of the point that is returned for an accepted station
+  pub lcc-voltage : (s : ConverterStation) (i : Float) → pointRefusal s ≡ 0 → lccAnswer s i .«v_dc_kv» ≡ (vd0 s ⊗ cosAlpha s) ⊖ (((three ⊘ pi) ⊗ xc s) ⊗ i)
   -- "VSC: voltage at least 1e-6", at any doubles, NaN among them
   pub vsc-voltage : (s : ConverterStation) (p v : Float) → le least (vscPoint s p v .«v_dc_kv») ≡ true

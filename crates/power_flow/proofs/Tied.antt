@@ -13,6 +13,7 @@ use Rattle.rules.specs.Studies.{numberOf}
 use Rattle.converter.specs.Answer.{blankPoint}
 use Rattle.power_flow.specs.declared.flow.DcGridSolution.{DcGridSolution}
 use Rattle.power_flow.specs.Flow.{blankSolution}
+use Rattle.power_flow.specs.Claims.{AnswerStops, AnswerSpent}
 use Rattle.power_flow.proofs.Claims.{answer-claims}
 use Rattle.power_flow.proofs.flow.solve_dc_power_flow as solve-contract
 use Rattle.power_flow.proofs.flow.solve_dc_power_flow.Kinds as solve-kinds
@@ -26,11 +27,16 @@ module _ (κs : Lfts 0) (a : ArgsD solve-contract.signature κs) (r : ResD solve
     pub solve-refused : (numberOf (r .verdict) ≡ 0 → ⊥) → r .solution ≡ blankSolution
     solve-refused d = h .1 ∙ answer-claims .refused (a .0) (λ z. d (h .0 ∙ z))
 
+    -- the answer stops in the first pass that meets the tolerance, and has its number and voltages
+    pub solve-stops : numberOf (r .verdict) ≡ 0 → r .solution .converged ≡ true → AnswerStops (a .0) (r .solution)
+    solve-stops k c = rw (h .1) (answer-claims .stops (a .0) (sym (h .0) ∙ k) (ap (λ (s : DcGridSolution). s .converged) (sym (h .1)) ∙ c))
+
+    -- or none of 50 passes meets it
+    pub solve-spent : numberOf (r .verdict) ≡ 0 → r .solution .converged ≡ false → AnswerSpent (a .0) (r .solution)
+    solve-spent k c = rw (h .1) (answer-claims .spent (a .0) (sym (h .0) ∙ k) (ap (λ (s : DcGridSolution). s .converged) (sym (h .1)) ∙ c))
+
     pub solve-passes : numberOf (r .verdict) ≡ 0 → (1 ≤ r .solution .iterations) × (r .solution .iterations ≤ 50)
     solve-passes k = rw (h .1) (answer-claims .passes (a .0) (sym (h .0) ∙ k))
-
-    pub solve-not-converged : numberOf (r .verdict) ≡ 0 → r .solution .converged ≡ false → r .solution .iterations ≡ 50
-    solve-not-converged k c = ap (λ (s : DcGridSolution). s .iterations) (h .1) ∙ answer-claims .not-converged (a .0) (sym (h .0) ∙ k) (ap (λ (s : DcGridSolution). s .converged) (sym (h .1)) ∙ c)
 
     pub solve-one-station : numberOf (r .verdict) ≡ 0 → a .0 .«n_stations» ≡ 1 → (r .solution .converged ≡ true) × (r .solution .iterations ≡ 1)
     solve-one-station k n = rw (h .1) (answer-claims .one-station (a .0) (sym (h .0) ∙ k) n)
