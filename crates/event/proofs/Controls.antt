@@ -16,7 +16,7 @@ use Rattle.grid.specs.declared.parts.ConverterStation.{ConverterStation}
 use Rattle.grid.specs.declared.parts.DcFaultEvent.{DcFaultEvent}
 use Rattle.grid.specs.declared.simulator.DcSwitchingSimulator.{DcSwitchingSimulator}
 use Rattle.timing.specs.Steps.{roundedUp, stepsOf, countBelow, recordsOf}
-use Rattle.rules.specs.PartChecks.{topologyOk, stationOk, cableOk, breakerTypeOk, breakerOk, faultOk}
+use Rattle.part_checks.specs.PartChecks.{topologyOk, stationOk, cableOk, breakerTypeOk, breakerOk, faultOk}
 use Rattle.rules.specs.Studies.{first, broken, tooManyParts, timeOutside, tooManySteps, stationOutside, cableOutside, breakerOutside, faultRefusal, switchingRefusal}
 use Rattle.portions.specs.declared.Stop.{Stop}
 use Rattle.portions.specs.declared.Stop.the-variants.{Finished, Spent, Full, Refused}

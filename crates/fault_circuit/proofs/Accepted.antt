@@ -21,7 +21,7 @@ use Rattle.grid.specs.declared.simulator.DcSwitchingSimulator.{DcSwitchingSimul
 use Rattle.grid.proofs.InRange.{in-range, range-in}
 use Rattle.timing.specs.Steps.{timeOfStep, k1000, timeStepMs, stepsOf}
 use Rattle.timing.specs.Claims.{Steps}
-use Rattle.rules.specs.PartChecks.{stationOk, cableOk, faultOk, orderOk}
+use Rattle.part_checks.specs.PartChecks.{stationOk, cableOk, faultOk, orderOk}
 use Rattle.rules.specs.Studies.{broken, timeOutside, stationOutside, cableOutside, faultOrder, faultRefusal, sweepRefusal}
 use Rattle.rules.specs.Claims.{Sizes}
 use Rattle.rules.proofs.Claims.{refusal-claims, accepted-claims}

@@ -23,7 +23,7 @@ use Rattle.grid.specs.declared.parts.DcCable.{DcCable}
 use Rattle.grid.specs.declared.parts.DcFaultEvent.{DcFaultEvent}
 use Rattle.grid.specs.declared.simulator.DcSwitchingSimulator.{DcSwitchingSimulator}
 use Rattle.grid.proofs.InRange.{in-range}
-use Rattle.rules.specs.PartChecks.{stationOk, cableOk}
+use Rattle.part_checks.specs.PartChecks.{stationOk, cableOk}
 use Rattle.fault_circuit.specs.declared.parameters.RlcParameters.{RlcParameters}
 use Rattle.fault_circuit.specs.Constants.{smoothing, leastCapacitance, leastCableResistance}
 use Rattle.fault_circuit.specs.Parameters.{faultedCable, feedingStation, fraction, distance, cableResistance, cableInductance, cableCapacitance, stationsCapacitance, parametersAt, parametersOf}

@@ -14,7 +14,7 @@ use Rattle.grid.specs.declared.parts.DcFaultEvent.{DcFaultEvent}
 use Rattle.grid.specs.declared.parts.SweepOrder.{SweepOrder}
 use Rattle.grid.specs.declared.simulator.DcSwitchingSimulator.{DcSwitchingSimulator}
 use Rattle.timing.specs.Steps.{timeOfStep, stepsOf, mostSteps}
-use Rattle.rules.specs.PartChecks.{stationOk, cableOk}
+use Rattle.part_checks.specs.PartChecks.{stationOk, cableOk}
 use Rattle.rules.specs.Studies.{faultRefusal, sweepRefusal}
 use Rattle.fault_circuit.specs.declared.circuit.FaultCircuit.{FaultCircuit}
 use Rattle.fault_circuit.specs.Parameters.{parametersOf}

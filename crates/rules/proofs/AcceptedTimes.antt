@@ -21,7 +21,7 @@ use Rattle.grid.specs.declared.parts.DcBreaker.{DcBreaker}
 use Rattle.timing.specs.Steps.{k1000}
 use Rattle.timing.specs.Breakers.{k03, largest, clearingTimeOf}
 use Rattle.timing.specs.Claims.{timed}
-use Rattle.rules.specs.PartChecks.{breakerTypeOk, breakerOk}
+use Rattle.part_checks.specs.PartChecks.{breakerTypeOk, breakerOk}
 
 -- ---- the two operations with a constant that a clearing time takes
 

@@ -10,12 +10,12 @@ use lib.Dec.{ltb}
 use lib.ListN.{getD}
 use Rattle.lists.specs.Scans.{every}
 use Rattle.lists.proofs.Counting.{by-test}
-use Rattle.lists.proofs.Scanning.{passed, passing-short, every-of}
-use Rattle.rules.specs.PartChecks.{stationOk, cableOk, breakerOk, faultOk, orderOk}
-use Rattle.grid.specs.Simulator.{stationsOf, cablesOf, breakersOf}
+use Rattle.lists.proofs.Scanning.{passed, every-of}
+use Rattle.part_checks.specs.PartChecks.{stationOk, breakerOk, faultOk, orderOk}
+use Rattle.grid.specs.Simulator.{breakersOf}
 use Rattle.timing.specs.Steps.{stepsOf, mostSteps}
-use Rattle.rules.specs.Studies.{broken, tooManySteps, switchingOrder, faultOrder, stationOutside, cableOutside, breakerOutside, flowRefusal, detectionRefusal, switchingRefusal, faultRefusal, sweepRefusal, pointRefusal, numberOf}
-use Rattle.rules.specs.Claims.{RefusalClaims, PositionClaims, AcceptedClaims, FastestClaims}
+use Rattle.rules.specs.Studies.{broken, tooManySteps, switchingOrder, faultOrder, breakerOutside, flowRefusal, detectionRefusal, switchingRefusal, faultRefusal, sweepRefusal, pointRefusal, numberOf}
+use Rattle.rules.specs.Claims.{RefusalClaims, AcceptedClaims, FastestClaims}
 use Rattle.timing.specs.Claims.{Steps, timed}
 use Rattle.timing.proofs.Fastest.{breaker-claims}
 use Rattle.grid.specs.declared.parts.ConverterStation.{ConverterStation}
@@ -70,17 +70,6 @@ refusal-claims =
       point-refused = point-six;
       point-accepted = point-nought;
       known = λ v w e. sym (answered v) ∙ ap answerOf e ∙ answered w;
-    }
-
--- ---- positions
-
-pub position-claims : PositionClaims
-unfolding stationOutside cableOutside breakerOutside
-position-claims =
-    record {
-      station = λ g. sym (passing-short stationOk (stationsOf g));
-      cable = λ g. sym (passing-short cableOk (cablesOf g));
-      breaker = λ g. sym (passing-short breakerOk (breakersOf g));
     }
 
 -- ---- steps

@@ -9,7 +9,7 @@ use lib.Dec.{ltb}
 use lib.ListN.{drop}
 use Rattle.lists.specs.Scans.{every}
 use Rattle.lists.proofs.Scanning.{left, right}
-use Rattle.rules.specs.PartChecks.{faultOk, orderOk}
+use Rattle.part_checks.specs.PartChecks.{faultOk, orderOk}
 use Rattle.rules.specs.Studies.{broken, tooManyParts, flowOrder, detectionOrder, switchingOrder, faultOrder}
 use Rattle.rules.specs.Claims.{Sizes, SizeClaims}
 use Rattle.rules.proofs.Claims.{refusal-claims}

@@ -8,7 +8,7 @@ use contract.Lifetimes.{Lfts}
 use borrow.Fn.World.{ArgsD, ResD}
 use borrow.Fn.Kinds.{endedOf}
 use denote.Triple.Clauses.{AtExit}
-use Rattle.rules.specs.PartChecks.{stationOk, faultOk, orderOk}
+use Rattle.part_checks.specs.PartChecks.{stationOk, faultOk, orderOk}
 use Rattle.rules.specs.Studies.{numberOf, broken, flowOrder, detectionOrder, switchingOrder, faultOrder}
 use Rattle.rules.specs.Claims.{Decides}
 use Rattle.rules.proofs.Claims.{refusal-claims}

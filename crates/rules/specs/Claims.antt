@@ -4,16 +4,15 @@ use mathlib.Core.Logic.{_↔_}
 use mathlib.Core.Bool.{Bool, true, false, not}
 use mathlib.Core.List.{List, _∷_, _++_}
 use Prim.Native.Nat.{ℕ, _≤_, _<_}
-use lib.Dec.{ltb}
 use lib.ListN.{length}
 use lib.Ieee.{le}
-use Rattle.lists.specs.Scans.{every, passing}
-use Rattle.grid.specs.Simulator.{stationsOf, cablesOf, breakersOf}
+use Rattle.lists.specs.Scans.{every}
+use Rattle.grid.specs.Simulator.{breakersOf}
 use Rattle.timing.specs.Steps.{stepsOf}
 use Rattle.timing.specs.Breakers.{timeOf, fastestOf}
 use Rattle.timing.specs.Claims.{Steps, HasTime}
-use Rattle.rules.specs.PartChecks.{stationOk, cableOk, breakerOk, faultOk, orderOk}
-use Rattle.rules.specs.Studies.{broken, stationOutside, cableOutside, breakerOutside, flowOrder, detectionOrder, switchingOrder, faultOrder, flowRefusal, detectionRefusal, switchingRefusal, faultRefusal, sweepRefusal, pointRefusal, numberOf}
+use Rattle.part_checks.specs.PartChecks.{stationOk, faultOk, orderOk}
+use Rattle.rules.specs.Studies.{broken, breakerOutside, flowOrder, detectionOrder, switchingOrder, faultOrder, flowRefusal, detectionRefusal, switchingRefusal, faultRefusal, sweepRefusal, pointRefusal, numberOf}
 use Rattle.grid.specs.declared.parts.ConverterStation.{ConverterStation}
 use Rattle.grid.specs.declared.parts.DcFaultEvent.{DcFaultEvent}
 use Rattle.grid.specs.declared.parts.SweepOrder.{SweepOrder}
@@ -35,12 +34,6 @@ pub record RefusalClaims : Type 0 where
   pub point-accepted : (s : ConverterStation) → (pointRefusal s ≡ 0) ↔ (stationOk s ≡ true)
   -- an answer is known by its number
   pub known : (v w : Verdict) → numberOf v ≡ numberOf w → v ≡ w
-
--- a rule on parts is broken exactly where the position of the first bad part lies before their end
-pub record PositionClaims : Type 0 where
-  pub station : (g : DcSwitchingSimulator) → stationOutside g ≡ ltb (passing stationOk (stationsOf g)) (length (stationsOf g))
-  pub cable : (g : DcSwitchingSimulator) → cableOutside g ≡ ltb (passing cableOk (cablesOf g)) (length (cablesOf g))
-  pub breaker : (g : DcSwitchingSimulator) → breakerOutside g ≡ ltb (passing breakerOk (breakersOf g)) (length (breakersOf g))
 
 -- what is accepted has from 1 to 1,000,000 steps
 pub record AcceptedClaims : Type 0 where

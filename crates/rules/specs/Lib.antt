@@ -1,3 +1,2 @@
-pub mod PartChecks
 pub mod Studies
 pub mod Claims

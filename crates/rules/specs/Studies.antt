@@ -7,7 +7,7 @@ use lib.ListN.{getD}
 use Rattle.lists.specs.Scans.{every}
 use Rattle.grid.specs.Ranges as range
 use Rattle.grid.specs.Ranges.{realIn}
-use Rattle.rules.specs.PartChecks.{stationOk, cableOk, breakerOk, faultOk, orderOk}
+use Rattle.part_checks.specs.PartChecks.{stationOk, cableOk, breakerOk, faultOk, orderOk}
 use Rattle.grid.specs.Simulator.{stationsOf, cablesOf, breakersOf}
 use Rattle.timing.specs.Steps.{stepsOf, mostSteps}
 use Rattle.grid.specs.declared.parts.ConverterStation.{ConverterStation}

@@ -1,10 +1,6 @@
 // What document 01 refuses: the rules 1 to 9, and the order in which each study checks them.
-mod part_checks;
 mod studies;
 
-pub use part_checks::first_bad_breaker;
-pub use part_checks::first_bad_cable;
-pub use part_checks::first_bad_station;
 pub use studies::Verdict;
 pub use studies::check_detection;
 pub use studies::check_fault;

@@ -3,7 +3,6 @@ ghost use mathlib.Core.Path.{_≡_};
 ghost use mathlib.Core.Bool.{cond};
 ghost use lib.Dec.{leb};
 ghost use Rattle.rules.specs.Studies.{numberOf, broken, first, tooManyParts, timeOutside, tooManySteps, stationOutside, cableOutside, breakerOutside, flowRefusal, detectionRefusal, switchingRefusal, faultRefusal, sweepRefusal, pointRefusal};
-use crate::part_checks;
 use grid::ConverterStation;
 use grid::DcFaultEvent;
 use grid::DcSwitchingSimulator;

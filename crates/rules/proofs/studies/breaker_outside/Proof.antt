@@ -1,7 +1,7 @@
 -- `breaker_outside` meets its contract. Assumes nothing.
 use borrow.Author.Needs.{needs}
 use Rattle.lists.proofs.Scanning.{stops-short, unmapped}
-use Rattle.rules.specs.PartChecks.{breakerOk}
+use Rattle.part_checks.specs.PartChecks.{breakerOk}
 use Rattle.rules.specs.Studies.{breakerOutside}
 use Rattle.rules.proofs.studies.breaker_outside.Statement.{statement}
 use Rattle.rules.proofs.studies.breaker_outside.Tie as tie

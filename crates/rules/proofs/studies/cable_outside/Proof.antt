@@ -1,7 +1,7 @@
 -- `cable_outside` meets its contract. Assumes nothing.
 use borrow.Author.Needs.{needs}
 use Rattle.lists.proofs.Scanning.{stops-short, unmapped}
-use Rattle.rules.specs.PartChecks.{cableOk}
+use Rattle.part_checks.specs.PartChecks.{cableOk}
 use Rattle.rules.specs.Studies.{cableOutside}
 use Rattle.rules.proofs.studies.cable_outside.Statement.{statement}
 use Rattle.rules.proofs.studies.cable_outside.Tie as tie

@@ -1,7 +1,7 @@
 -- `station_outside` meets its contract. Assumes nothing.
 use borrow.Author.Needs.{needs}
 use Rattle.lists.proofs.Scanning.{stops-short, unmapped}
-use Rattle.rules.specs.PartChecks.{stationOk}
+use Rattle.part_checks.specs.PartChecks.{stationOk}
 use Rattle.rules.specs.Studies.{stationOutside}
 use Rattle.rules.proofs.studies.station_outside.Statement.{statement}
 use Rattle.rules.proofs.studies.station_outside.Tie as tie

@@ -1,0 +1,43 @@
+-- `check_cable` meets its contract. Assumes nothing.
+use Rattle.part_checks.specs.PartChecks.{cableOk}
+use borrow.Author.Needs.{needs}
+use Rattle.part_checks.proofs.accepted.check_cable.Statement.{statement}
+use Rattle.part_checks.proofs.accepted.check_cable.Tie as tie
+
+whole-in-range-requires : tie.Need-whole-in-range-requires
+whole-in-range-requires c κs = search needs
+
+whole-in-range-requires-2 : tie.Need-whole-in-range-requires-2
+whole-in-range-requires-2 c κs = search needs
+
+whole-in-range-requires-3 : tie.Need-whole-in-range-requires-3
+whole-in-range-requires-3 c κs = search needs
+
+in-range-requires : tie.Need-in-range-requires
+in-range-requires c κs = search needs
+
+in-range-requires-2 : tie.Need-in-range-requires-2
+in-range-requires-2 c κs = search needs
+
+in-range-requires-3 : tie.Need-in-range-requires-3
+in-range-requires-3 c κs = search needs
+
+in-range-requires-4 : tie.Need-in-range-requires-4
+in-range-requires-4 c κs = search needs
+
+returns : tie.Need-returns
+unfolding cableOk
+returns c = rw (c .before .before .before .before .before .before .whole-in-range .ensures, c .before .before .before .before .before .whole-in-range2 .ensures, c .before .before .before .before .whole-in-range3 .ensures, c .before .before .before .in-range .ensures, c .before .before .in-range2 .ensures, c .before .in-range3 .ensures, c .in-range4 .ensures)
+
+pub check-cable-spec : {M : Type 1} → statement M
+check-cable-spec =
+    tie.close
+    (tie.spec
+    whole-in-range-requires
+    whole-in-range-requires-2
+    whole-in-range-requires-3
+    in-range-requires
+    in-range-requires-2
+    in-range-requires-3
+    in-range-requires-4
+    returns)

@@ -1,0 +1,31 @@
+-- `check_event` meets its contract. Assumes nothing.
+use Rattle.part_checks.specs.PartChecks.{faultOk}
+use borrow.Author.Needs.{needs}
+use Rattle.part_checks.proofs.accepted.check_event.Statement.{statement}
+use Rattle.part_checks.proofs.accepted.check_event.Tie as tie
+
+whole-in-range-requires : tie.Need-whole-in-range-requires
+whole-in-range-requires c κs = search needs
+
+in-range-requires : tie.Need-in-range-requires
+in-range-requires c κs = search needs
+
+in-range-requires-2 : tie.Need-in-range-requires-2
+in-range-requires-2 c κs = search needs
+
+in-range-requires-3 : tie.Need-in-range-requires-3
+in-range-requires-3 c κs = search needs
+
+returns : tie.Need-returns
+unfolding faultOk
+returns c = rw (c .before .before .before .whole-in-range .ensures, c .before .before .in-range .ensures, c .before .in-range2 .ensures, c .in-range3 .ensures)
+
+pub check-event-spec : {M : Type 1} → statement M
+check-event-spec =
+    tie.close
+    (tie.spec
+    whole-in-range-requires
+    in-range-requires
+    in-range-requires-2
+    in-range-requires-3
+    returns)

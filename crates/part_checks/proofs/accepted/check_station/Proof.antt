@@ -1,0 +1,55 @@
+-- `check_station` meets its contract. Assumes nothing.
+use Rattle.part_checks.specs.PartChecks.{stationOk}
+use borrow.Author.Needs.{needs}
+use Rattle.part_checks.proofs.accepted.check_station.Statement.{statement}
+use Rattle.part_checks.proofs.accepted.check_station.Tie as tie
+
+check-topology-requires : tie.Need-check-topology-requires
+check-topology-requires c κs = search needs
+
+whole-in-range-requires : tie.Need-whole-in-range-requires
+whole-in-range-requires c κs = search needs
+
+in-range-requires : tie.Need-in-range-requires
+in-range-requires c κs = search needs
+
+in-range-requires-2 : tie.Need-in-range-requires-2
+in-range-requires-2 c κs = search needs
+
+in-range-requires-3 : tie.Need-in-range-requires-3
+in-range-requires-3 c κs = search needs
+
+in-range-requires-4 : tie.Need-in-range-requires-4
+in-range-requires-4 c κs = search needs
+
+in-range-requires-5 : tie.Need-in-range-requires-5
+in-range-requires-5 c κs = search needs
+
+in-range-requires-6 : tie.Need-in-range-requires-6
+in-range-requires-6 c κs = search needs
+
+in-range-requires-7 : tie.Need-in-range-requires-7
+in-range-requires-7 c κs = search needs
+
+in-range-requires-8 : tie.Need-in-range-requires-8
+in-range-requires-8 c κs = search needs
+
+returns : tie.Need-returns
+unfolding stationOk
+returns c = rw (c .before .before .before .before .before .before .before .before .before .check-topology .ensures, c .before .before .before .before .before .before .before .before .whole-in-range .ensures, c .before .before .before .before .before .before .before .in-range .ensures, c .before .before .before .before .before .before .in-range2 .ensures, c .before .before .before .before .before .in-range3 .ensures, c .before .before .before .before .in-range4 .ensures, c .before .before .before .in-range5 .ensures, c .before .before .in-range6 .ensures, c .before .in-range7 .ensures, c .in-range8 .ensures)
+
+pub check-station-spec : {M : Type 1} → statement M
+check-station-spec =
+    tie.close
+    (tie.spec
+    check-topology-requires
+    whole-in-range-requires
+    in-range-requires
+    in-range-requires-2
+    in-range-requires-3
+    in-range-requires-4
+    in-range-requires-5
+    in-range-requires-6
+    in-range-requires-7
+    in-range-requires-8
+    returns)

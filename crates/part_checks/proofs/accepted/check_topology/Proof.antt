@@ -1,0 +1,51 @@
+-- `check_topology` meets its contract. Assumes nothing.
+use Rattle.part_checks.specs.PartChecks.{topologyOk}
+use mathlib.Core.Path.{sym, ap, _∙_}
+use borrow.Author.Needs.{needs}
+use Rattle.part_checks.proofs.accepted.check_topology.Statement.{statement}
+use Rattle.part_checks.proofs.accepted.check_topology.Tie as tie
+
+enum-told : tie.Need-enum-told
+enum-told c = search needs
+
+enum-told-2 : tie.Need-enum-told-2
+enum-told-2 c = search needs
+
+enum-known-topology : tie.Need-enum-known-topology
+enum-known-topology c = search needs
+
+whole-in-range-requires : tie.Need-whole-in-range-requires
+whole-in-range-requires c κs = search needs
+
+enum-told-3 : tie.Need-enum-told-3
+enum-told-3 c = search needs
+
+returns : tie.Need-returns
+unfolding topologyOk
+returns c = ap topologyOk (sym (c .enum-told .given .1))
+
+returns-2 : tie.Need-returns-2
+unfolding topologyOk
+returns-2 c = ap topologyOk (sym (c .enum-told2 .given .1))
+
+returns-3 : tie.Need-returns-3
+unfolding topologyOk
+returns-3 c = c .whole-in-range .ensures ∙ ap topologyOk (sym (c .before .before .topology .given .1))
+
+returns-4 : tie.Need-returns-4
+unfolding topologyOk
+returns-4 c = ap topologyOk (sym (c .enum-told3 .given .1))
+
+pub check-topology-spec : {M : Type 1} → statement M
+check-topology-spec =
+    tie.close
+    (tie.spec
+    enum-told
+    enum-told-2
+    enum-known-topology
+    whole-in-range-requires
+    enum-told-3
+    returns
+    returns-2
+    returns-3
+    returns-4)

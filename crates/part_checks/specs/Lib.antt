@@ -1,0 +1,2 @@
+pub mod PartChecks
+pub mod Claims
