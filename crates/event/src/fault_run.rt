@@ -134,6 +134,7 @@ impl FaultRun {
         let mut made = self.steps_made;
         let mut steps: u64 = 0;
         let mut out: usize = 0;
+        // Set once no later step changes an array. Such a step, and one before inception, is made without touching one.
         let mut resting = false;
         loop {
             let recorded = is_recorded(made, n);
