@@ -1,7 +1,7 @@
 -- Worked examples of the definitions: they are believed, so a wrong clause need break no other proof. The answers were written by hand from document 01.
 use mathlib.Core.Path.{_≡_, refl}
 use mathlib.Core.Bool.{false, _||_}
-use mathlib.Core.List.{[], _∷_}
+use mathlib.Core.List.{[], _∷_, map}
 use Prim.Native.Nat.{ℕ, _-_}
 use lib.Dec.{eqb}
 use lib.Ieee.{ofBits, ofInt, round, div, lt, le, eq, isNan}
@@ -11,13 +11,19 @@ use Rattle.grid.specs.Ranges.{realIn, wholeIn}
 use Rattle.part_checks.specs.PartChecks.{topologyOk, stationOk, cableOk, breakerTypeOk, breakerOk, faultOk, orderOk}
 use Rattle.grid.specs.Simulator.{blankStation, blankCable, blankBreaker, newSimulator, withStation, withCable, withBreaker, keptTimeStep, keptDuration}
 use Rattle.timing.specs.Steps.{roundedUp, stepsOf}
-use Rattle.rules.specs.Studies.{order, first, broken, tooManyParts, timeOutside, tooManySteps, stationOutside, cableOutside, breakerOutside, flowOrder, detectionOrder, switchingOrder, faultOrder, flowRefusal, detectionRefusal, switchingRefusal, faultRefusal, sweepRefusal, pointRefusal}
+use Rattle.rules.specs.Studies.{order, first, broken, tooManyParts, timeOutside, tooManySteps, stationOutside, cableOutside, breakerOutside, flowOrder, detectionOrder, switchingOrder, faultOrder, flowRefusal, detectionRefusal, switchingRefusal, faultRefusal, sweepRefusal, pointRefusal, numberOf}
 use Rattle.grid.specs.declared.parts.ConverterTopology.the-variants.{Mmc}
 use Rattle.grid.specs.declared.parts.DcFaultType.the-variants.{PoleToGround}
 use Rattle.grid.specs.declared.parts.ConverterStation.{ConverterStation}
 use Rattle.grid.specs.declared.parts.DcFaultEvent.{DcFaultEvent}
 use Rattle.grid.specs.declared.parts.SweepOrder.{SweepOrder}
 use Rattle.grid.specs.declared.simulator.DcSwitchingSimulator.{DcSwitchingSimulator}
+use Rattle.rules.specs.declared.studies.Verdict.the-variants.{Accepted, NoStation, NoCable, TooManyParts, TimeOutside, TooManySteps, StationOutside, CableOutside, BreakerOutside, EventOutside}
+
+-- the numbers of 01's table of refusals, from its first row on; 0 for what is accepted
+numbers-are : (numberOf Accepted ≡ 0) × (map numberOf (NoStation ∷ NoCable ∷ TooManyParts ∷ TimeOutside ∷ TooManySteps ∷ StationOutside ∷ CableOutside ∷ BreakerOutside ∷ EventOutside ∷ []) ≡ 1 ∷ 2 ∷ 3 ∷ 4 ∷ 5 ∷ 6 ∷ 7 ∷ 8 ∷ 9 ∷ [])
+unfolding numberOf
+numbers-are = (refl, refl)
 
 -- the orders of 01, written out; detection checks what flow does
 orders-are : (flowOrder ≡ 3 ∷ 1 ∷ 6 ∷ 7 ∷ 8 ∷ []) × (detectionOrder ≡ flowOrder) × (switchingOrder ≡ 3 ∷ 1 ∷ 4 ∷ 5 ∷ 6 ∷ 7 ∷ 8 ∷ []) × (faultOrder ≡ 3 ∷ 1 ∷ 2 ∷ 4 ∷ 5 ∷ 6 ∷ 7 ∷ 8 ∷ 9 ∷ [])

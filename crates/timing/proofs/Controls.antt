@@ -3,12 +3,13 @@ use mathlib.Core.Path.{_≡_, refl}
 use mathlib.Core.Bool.{true, false}
 use mathlib.Core.List.{[], _∷_, foldl}
 use Prim.Native.Nat.{_-_}
-use lib.Ieee.{nan, ofBits, ofInt, round, neg, div, lt, le, eq, isNan}
+use lib.ListN.{replicate}
+use lib.Ieee.{Float, nan, binary64, ofBits, ofInt, round, neg, div, lt, le, eq, isNan}
 use Rattle.float64.specs.Constants.{nought, decimal}
 use Rattle.float64.specs.Choice.{maxOf, minOf}
 use Rattle.grid.specs.Ranges.{realIn}
 use Rattle.grid.specs.Simulator.{blankStation, blankCable, blankBreaker, keptTimeStep, keptDuration, newSimulator, withStation, withCable, withBreaker}
-use Rattle.timing.specs.Steps.{roundedUp, stepsOf, intervalOf, recorded, countBelow, recordsOf, recordLength}
+use Rattle.timing.specs.Steps.{timeStepMs, durationMs, roundedUp, stepsOf, intervalOf, recorded, countBelow, recordsOf, recordLength}
 use Rattle.timing.specs.Breakers.{clearingTimeOf, faster}
 use Rattle.grid.specs.declared.parts.DcBreakerType.the-variants.{Mechanical, SolidState}
 use Rattle.grid.specs.declared.simulator.DcSwitchingSimulator.{DcSwitchingSimulator}
@@ -40,3 +41,19 @@ one = withBreaker (withCable (withStation (newSimulator (decimal 10 1) (decimal 
 lengths-are : recordLength one ≡ 6
 unfolding one newSimulator withStation withCable withBreaker
 lengths-are = refl
+
+-- grids put together by hand: a time step in µs and a duration in ms, in their ranges and below the least, are raised all the same; others are left
+made : Float → Float → DcSwitchingSimulator
+made dt duration = record { stations = replicate 32 blankStation; cables = replicate 64 blankCable; breakers = replicate 32 blankBreaker; «n_stations» = 0; «n_cables» = 0; «n_breakers» = 0; «dt_us» = dt; «duration_ms» = duration }
+
+-- 0.0001 and 0.01
+steps-used : (ofBits binary64 0x3f1a_36e2_eb1c_432d ≡ decimal 1 10000) × (ofBits binary64 0x3f84_7ae1_47ae_147b ≡ decimal 1 100)
+unfolding ofBits round
+steps-used = (refl, refl)
+
+raised-are : (timeStepMs (made nought nought) ≡ ofBits binary64 0x3f1a_36e2_eb1c_432d) × (timeStepMs (made (decimal 5 100) nought) ≡ ofBits binary64 0x3f1a_36e2_eb1c_432d)
+    × (timeStepMs (made nan nan) ≡ ofBits binary64 0x3f1a_36e2_eb1c_432d) × (timeStepMs (made (decimal 10 1) nought) ≡ ofBits binary64 0x3f84_7ae1_47ae_147b)
+    × (durationMs (made nought nought) ≡ decimal 1 1000) × (durationMs (made nought (decimal 5 10000)) ≡ decimal 1 1000) × (durationMs (made nan nan) ≡ decimal 1 1000) × (durationMs (made nought (decimal 100 1)) ≡ decimal 100 1)
+    × (stepsOf (made nought nought) ≡ 10)
+unfolding made maxOf isNan lt ofBits round div roundedUp stepsOf
+raised-are = (refl, refl, refl, refl, refl, refl, refl, refl, refl)

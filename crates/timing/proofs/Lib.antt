@@ -4,6 +4,7 @@ pub mod Stepping
 pub mod NeverNan
 pub mod Fastest
 pub mod Claims
+pub mod Raised
 pub mod Examples
 pub mod Tied
 mod Controls
