@@ -30,6 +30,8 @@ use Rattle.rules.proofs.studies.check_sweep.Reads as check-sweep-reads
 use Rattle.rules.proofs.studies.check_operating_point as check-operating-point-contract
 use Rattle.rules.proofs.studies.check_operating_point.Kinds as check-operating-point-kinds
 use Rattle.rules.proofs.studies.check_operating_point.Reads as check-operating-point-reads
+use Rattle.rules.proofs.studies.number as number-contract
+use Rattle.rules.proofs.studies.number.Reads as number-reads
 
 module _ (κs : Lfts 0) (a : ArgsD check-flow-contract.signature κs) (r : ResD check-flow-contract.signature κs) (e : AtExit (endedOf 0 check-flow-kinds.ps check-flow-kinds.r) κs) where
   pub check-flow-any : check-flow-reads.Asked κs a
@@ -72,3 +74,6 @@ module _ (κs : Lfts 0) (a : ArgsD check-operating-point-contract.signature κs)
 
   pub check-operating-point-decides : check-operating-point-reads.Learnt κs a r e → ((numberOf r ≡ 6) ↔ (stationOk (a .0) ≡ false)) × ((numberOf r ≡ 0) ↔ (stationOk (a .0) ≡ true))
   check-operating-point-decides h = subst (λ (k : ℕ). ((k ≡ 6) ↔ (stationOk (a .0) ≡ false)) × ((k ≡ 0) ↔ (stationOk (a .0) ≡ true))) (sym h) (refusal-claims .point-refused (a .0), refusal-claims .point-accepted (a .0))
+
+pub number-any : (κs : Lfts 0) (a : ArgsD number-contract.signature κs) → number-reads.Asked κs a
+number-any κs a = tt
