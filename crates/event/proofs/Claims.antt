@@ -20,7 +20,7 @@ use Rattle.portions.proofs.Course.{course-claims, chain-and}
 use Rattle.fault_step.specs.Fault.{faultBody, faultAfter}
 use Rattle.switching_step.specs.Switching.{switchingBody, switchingAfter}
 use Rattle.event.specs.declared.result.DcTransientResult.{DcTransientResult}
-use Rattle.event.specs.Records.{recordOf}
+use Rattle.records.specs.Records.{recordOf}
 use Rattle.event.specs.FaultRuns.{faultRunRefused, faultStepper, faultRunAfter, startedFaultRun, blankFaultRun, faultFigures, faultResults, figuresSoFar}
 use Rattle.event.specs.SwitchingRuns.{switchingRunRefused, switchingStepper, switchingRunAfter, startedSwitchingRun, blankSwitchingRun, switchingResults}
 use Rattle.event.specs.Claims.{Run, faultRun, switchingRun, statesAfter, Calls, InPortions, RunClaims}

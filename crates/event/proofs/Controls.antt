@@ -32,7 +32,7 @@ use Rattle.switching_step.specs.Switching.{operatedState, switchBody, switching
 use Rattle.event.specs.declared.fault_run.FaultRun.{FaultRun}
 use Rattle.event.specs.declared.fault_run.AdvancedFaultRun.{AdvancedFaultRun}
 use Rattle.event.specs.declared.result.DcTransientResult.{DcTransientResult}
-use Rattle.event.specs.Records.{recordWith, recordOf}
+use Rattle.records.specs.Records.{recordWith, recordOf}
 use Rattle.event.specs.FaultRuns.{faultRunRefused, nextFaultRun, faultRecords, faultStepper, faultRunAfter, startedFaultRun, blankFaultRun, advancedFaultRun, faultFigures}
 use Rattle.event.specs.SwitchingRuns.{switchingRunRefused, nextSwitchingRun, switchingRecords, switchingStepper, switchingRunAfter, startedSwitchingRun}
 use Rattle.event.specs.Claims.{faultRun, statesAfter, InPortions}
@@ -58,7 +58,7 @@ grid dt duration =
       «duration_ms» = whole duration;
     }
 
--- ---- a record: time, fault current, two voltages, two station currents, the cable's current, a breaker closed and one open
+-- ---- a state: time, fault current, two voltages, two station currents, the cable's current, a breaker closed and one open
 
 state : ℕ → DcTransientState
 state time =
@@ -69,10 +69,6 @@ state time =
       «fault_current_ka» = whole 2;
       «breaker_states» = true ∷ false ∷ true ∷ [];
     }
-
-record-is : recordOf (grid 1000 3) (state 1) ≡ whole 1 ∷ whole 2 ∷ whole 3 ∷ whole 4 ∷ whole 5 ∷ whole 6 ∷ whole 7 ∷ whole 1 ∷ whole 0 ∷ []
-unfolding recordWith tab grid state whole ofBits round
-record-is = refl
 
 -- ---- figures of a run of 3 steps whose variables have a clearing time of 14: the duration in its place only where the run is finished and the fault not cleared
 

@@ -21,7 +21,7 @@ use Rattle.fault_step.specs.Quiet.{waitsBy, restsBy, quietStep}
 use Rattle.fault_step.proofs.Claims.{plan-claims}
 use Rattle.event.specs.declared.fault_run.FaultRun.{FaultRun}
 use Rattle.event.specs.declared.fault_run.AdvancedFaultRun.{AdvancedFaultRun}
-use Rattle.event.specs.Records.{recordOf}
+use Rattle.records.specs.Records.{recordOf}
 use Rattle.event.specs.FaultRuns.{faultRunRefused, nextFaultRun, faultRecords, faultStepper, advancedFaultRun}
 use Rattle.event.proofs.Turns.{Stage, Kind, unbroken}
 

@@ -1,4 +1,3 @@
-mod Parts
 mod Turns
 mod FaultLoop
 mod SwitchingLoop

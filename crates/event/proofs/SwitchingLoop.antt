@@ -18,7 +18,7 @@ use Rattle.switching_step.specs.Plans.{switchingPlanOf, switchingPlanStep}
 use Rattle.switching_step.proofs.Claims.{plan-claims}
 use Rattle.event.specs.declared.switching_run.SwitchingRun.{SwitchingRun}
 use Rattle.event.specs.declared.switching_run.AdvancedSwitchingRun.{AdvancedSwitchingRun}
-use Rattle.event.specs.Records.{recordOf}
+use Rattle.records.specs.Records.{recordOf}
 use Rattle.event.specs.SwitchingRuns.{switchingRunRefused, nextSwitchingRun, switchingRecords, switchingStepper, advancedSwitchingRun}
 use Rattle.event.proofs.Turns.{Stage, Kind, unbroken}
 

@@ -22,8 +22,9 @@ use Rattle.timing.proofs.Claims.{step-claims}
 use Rattle.rules.specs.Claims.{Sizes}
 use Rattle.portions.specs.Stopping.{Stepper, joined, reasonOf}
 use Rattle.transient.specs.declared.state.DcTransientState.{DcTransientState}
-use Rattle.event.specs.declared.record.RecordCounts.{RecordCounts}
-use Rattle.event.specs.Records.{closedNumber, recordWith, recordOf, countsOf, numbersIn, Counted}
+use Rattle.records.specs.declared.record.RecordCounts.{RecordCounts}
+use Rattle.records.specs.Records.{closedNumber, recordWith, recordOf, countsOf, numbersIn, Counted, puts}
+use Rattle.records.proofs.Fitting.{puts-is}
 use Rattle.portions.proofs.Loop.{Going, Came, going-start, came-reason, goes-on, going-on, room-fits}
 
 -- what rule 11 lets through, of a refusal k and of steps made of n
@@ -194,7 +195,12 @@ module _ {m : Stepper Float} {g : DcSwitchingSimulator} {Vars : Type 0} (k : Kin
         pub fits : b ≡ true → size * out + numbersIn counts ≤ length lent
         fits t = rw (i .fixed .counts-is, ← i .fixed .size-is) (record-fits m (i .going) here b is-b space space-is h size size-is t)
 
-        pub goes : (v′ : Vars) → v′ ≡ step made v → (w : ℕ) → w ≡ cond b 1 0 → (lent′ : List Float) → lent′ ≡ sets lent (size * out) (cond b (recordWith (counts .stations) (counts .cables) (counts .breakers) (state v′)) [])
+        -- the record has its space, so it is written exactly where it is asked for
+        written : puts b counts (size * out) (length lent) ≡ b
+        written = puts-is b counts (size * out) (length lent) (i .fixed .counted) fits
+
+        pub goes : (v′ : Vars) → v′ ≡ step made v → (w : ℕ) → w ≡ cond (puts b counts (size * out) (length lent)) 1 0
+            → (lent′ : List Float) → lent′ ≡ sets lent (size * out) (cond (puts b counts (size * out) (length lent)) (recordWith (counts .stations) (counts .cables) (counts .breakers) (state v′)) [])
             → Inside allowance lent₀ n size space counts step v₀ made₀ lent′ v′ (made + 1) (steps + 1) (out + w)
         goes v′ is-v w is-w lent′ is-lent =
             let e : v′ ≡ body made v = is-v ∙ i .step-is made v in
@@ -202,7 +208,7 @@ module _ {m : Stepper Float} {g : DcSwitchingSimulator} {Vars : Type 0} (k : Kin
               fixed = i .fixed;
               step-is = i .step-is;
               going =
-                  turn m (i .going) here b is-b space space-is h size size-is (record-long g (state (body made v)) ∙ sym (i .fixed .size-is)) w is-w (run (made + 1) v′) (rw (add-one, e) (k .next-is made v)) lent′
-                  (is-lent ∙ rw (i .fixed .counts-is, e));
+                  turn m (i .going) here b is-b space space-is h size size-is (record-long g (state (body made v)) ∙ sym (i .fixed .size-is)) w (is-w ∙ rw written) (run (made + 1) v′) (rw (add-one, e) (k .next-is made v)) lent′
+                  (is-lent ∙ rw (written, i .fixed .counts-is, e));
               made-ok = omega (arith, more-steps);
             }

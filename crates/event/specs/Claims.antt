@@ -20,7 +20,7 @@ use Rattle.switching_step.specs.Switching.{switchingAfter}
 use Rattle.event.specs.declared.fault_run.FaultRun.{FaultRun}
 use Rattle.event.specs.declared.switching_run.SwitchingRun.{SwitchingRun}
 use Rattle.event.specs.declared.result.DcTransientResult.{DcTransientResult}
-use Rattle.event.specs.Records.{recordOf}
+use Rattle.records.specs.Records.{recordOf}
 use Rattle.event.specs.FaultRuns.{faultStepper, faultRunRefused, faultRunAfter, startedFaultRun, faultFigures, faultResults, figuresSoFar}
 use Rattle.event.specs.SwitchingRuns.{switchingStepper, switchingRunRefused, switchingRunAfter, startedSwitchingRun, switchingResults}
 

@@ -20,7 +20,7 @@ use Rattle.fault_step.specs.Fault.{faultBody, faultAfter}
 use Rattle.event.specs.declared.fault_run.FaultRun.{FaultRun}
 use Rattle.event.specs.declared.fault_run.AdvancedFaultRun.{AdvancedFaultRun}
 use Rattle.event.specs.declared.result.DcTransientResult.{DcTransientResult}
-use Rattle.event.specs.Records.{recordOf}
+use Rattle.records.specs.Records.{recordOf}
 
 -- ---- one step of a kept run
 

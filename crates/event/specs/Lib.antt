@@ -1,4 +1,3 @@
-pub mod Records
 pub mod FaultRuns
 pub mod SwitchingRuns
 pub mod Claims

@@ -14,7 +14,7 @@ use Rattle.switching_step.specs.Switching.{switchingBody, switchingAfter}
 use Rattle.event.specs.declared.switching_run.SwitchingRun.{SwitchingRun}
 use Rattle.event.specs.declared.switching_run.AdvancedSwitchingRun.{AdvancedSwitchingRun}
 use Rattle.event.specs.declared.result.DcTransientResult.{DcTransientResult}
-use Rattle.event.specs.Records.{recordOf}
+use Rattle.records.specs.Records.{recordOf}
 use Rattle.event.specs.FaultRuns.{blankGrid, blankState}
 
 -- ---- one step of a kept run

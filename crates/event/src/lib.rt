@@ -1,7 +1,6 @@
 // Event: one fault or breaker operation, run in portions on lent memory.
 mod blank;
 mod fault_run;
-mod record;
 mod result;
 mod switching_run;
 

@@ -1,6 +1,6 @@
 -- `advance` of a fault run meets its contract. Assumes nothing.
 use Rattle.event.specs.FaultRuns.{faultStepper}
-use Rattle.event.proofs.Turns.{Inside, inside, position, out-ok, leaves, more, more-steps, fits, goes}
+use Rattle.event.proofs.Turns.{Inside, inside, position, out-ok, leaves, more, more-steps, goes}
 use Rattle.event.proofs.FaultLoop.{faultKind, accepted, not-past, by-plan, quietly, still, returned}
 use Rattle.fault_step.specs.Plans.{planStep}
 use Rattle.fault_step.specs.Quiet.{restsBy}
@@ -131,10 +131,7 @@ mul-put-if-recorded c =
     omega (arith, position _ (l .loop .inv .0), l .loop .inv .0 .going .same-length, start l .good .1 .1 .0)
 
 put-if-recorded-requires : tie.Need-put-if-recorded-requires Inv-loop μ-loop
-put-if-recorded-requires c κs =
-    let t = c .before .before .before in
-    let r = t .before in
-    (r .before .loop .inv .0 .fixed .counted, fits _ (r .before .loop .inv .0) (r .is-recorded .result) (r .is-recorded .ensures) (t .if2 .left))
+put-if-recorded-requires c κs = search needs
 
 add-out : tie.Need-add-out Inv-loop μ-loop
 add-out c = let x = loop-again c .0 in omega (arith, out-ok _ x, x .going .same-length, start (head c) .good .1 .1 .0)

@@ -1,6 +1,6 @@
 -- `advance` of a switching run meets its contract. Assumes nothing.
 use Rattle.event.specs.SwitchingRuns.{switchingStepper}
-use Rattle.event.proofs.Turns.{Inside, inside, position, out-ok, leaves, more, more-steps, fits, goes}
+use Rattle.event.proofs.Turns.{Inside, inside, position, out-ok, leaves, more, more-steps, goes}
 use Rattle.event.proofs.SwitchingLoop.{switchingKind, accepted, not-past, by-plan, returned}
 use Rattle.switching_step.specs.Plans.{switchingPlanStep}
 use Rattle.rules.proofs.Claims.{accepted-claims}
@@ -100,10 +100,7 @@ mul-put-if-recorded c =
     omega (arith, position _ (l .loop .inv), l .loop .inv .going .same-length, start l .good .1 .1 .0)
 
 put-if-recorded-requires : tie.Need-put-if-recorded-requires Inv-loop μ-loop
-put-if-recorded-requires c κs =
-    let t = c .before .before in
-    let r = t .before in
-    (r .before .loop .inv .fixed .counted, fits _ (r .before .loop .inv) (r .is-recorded .result) (r .is-recorded .ensures) (t .if2 .left))
+put-if-recorded-requires c κs = search needs
 
 add-out : tie.Need-add-out Inv-loop μ-loop
 add-out c = let x = loop-again c in omega (arith, out-ok _ x, x .going .same-length, start (head c) .good .1 .1 .0)

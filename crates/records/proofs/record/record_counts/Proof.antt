@@ -1,11 +1,11 @@
 -- `record_counts` meets its contract. Assumes nothing.
-use Rattle.event.specs.declared.record.RecordCounts.{RecordCounts}
+use Rattle.records.specs.declared.record.RecordCounts.{RecordCounts}
 use Rattle.lists.proofs.Scanning.{unmapped, length-cut}
 use Prim.Native.Nat.{ℕ}
 use mathlib.Core.Path.{_≡_}
 use borrow.Author.Needs.{needs}
-use Rattle.event.proofs.record.record_counts.Statement.{statement}
-use Rattle.event.proofs.record.record_counts.Tie as tie
+use Rattle.records.proofs.record.record_counts.Statement.{statement}
+use Rattle.records.proofs.record.record_counts.Tie as tie
 
 counts : {s c b s′ c′ b′ : ℕ} → s ≡ s′ → c ≡ c′ → b ≡ b′ → _≡_ {A = RecordCounts} (record { stations = s; cables = c; breakers = b }) (record { stations = s′; cables = c′; breakers = b′ })
 counts p q r = λ i. record { stations = p i; cables = q i; breakers = r i }

@@ -1,6 +1,6 @@
 -- `put_record` meets its contract. Assumes nothing.
-use Rattle.event.specs.Records.{recordWith, closedNumber}
-use Rattle.event.proofs.Parts.{laid-out}
+use Rattle.records.specs.Records.{recordWith, closedNumber}
+use Rattle.records.proofs.Parts.{laid-out}
 use Rattle.lists.specs.Tables.{tab}
 use Rattle.float64.specs.Arithmetic.{of}
 use Rattle.lists.proofs.Fills.{tab-same}
@@ -13,8 +13,8 @@ use lib.Seq.{length-sets}
 use native.Mathlib.Omega.{arith}
 use mathlib.Core.Path.{_≡_, ap, _∙_}
 use borrow.Author.Needs.{needs}
-use Rattle.event.proofs.record.put_record.Statement.{statement}
-use Rattle.event.proofs.record.put_record.Tie as tie
+use Rattle.records.proofs.record.put_record.Statement.{statement}
+use Rattle.records.proofs.record.put_record.Tie as tie
 
 from-first : (x : List Float) (n : ℕ) → tab n (λ i. of x (0 + i)) ≡ tab n (of x)
 from-first x n = tab-same n _ _ (λ k l. let e : 0 + k ≡ k = omega arith in ap (of x) e)

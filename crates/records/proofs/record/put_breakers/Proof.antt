@@ -7,12 +7,12 @@ use lib.Seq.{sets}
 use native.Mathlib.Omega.{arith}
 use Prim.Native.Nat.{_-_, _≤_}
 use mathlib.Core.Path.{_≡_, refl}
-use Rattle.event.specs.Records.{closedNumber}
+use Rattle.records.specs.Records.{closedNumber}
 use lib.ListN.{getD}
 use mathlib.Core.Bool.{false}
 use borrow.Author.Needs.{needs}
-use Rattle.event.proofs.record.put_breakers.Statement.{statement}
-use Rattle.event.proofs.record.put_breakers.Tie as tie
+use Rattle.records.proofs.record.put_breakers.Statement.{statement}
+use Rattle.records.proofs.record.put_breakers.Tie as tie
 
 abbrev Inv-loop : tie.InvT-loop
 Inv-loop records₀ at breakers n i₀ records i = (i ≤ n) × (length records ≡ length records₀) × (records ≡ sets records₀ at (tab i (λ k. closedNumber (getD breakers k false))))

@@ -1,13 +1,13 @@
 // A state as a record in lent memory: time, fault current, voltages, station currents, cable currents, breakers.
 ghost use mathlib.Core.Path.{_≡_};
-ghost use mathlib.Core.Bool.{true, false, cond};
+ghost use mathlib.Core.Bool.{false, cond};
 ghost use mathlib.Core.List.{[]};
 ghost use Prim.Native.Nat.{_+_, _≤_};
 ghost use lib.ListN.{length, getD};
 ghost use lib.Seq.{sets};
 ghost use Rattle.lists.specs.Tables.{tab};
 ghost use Rattle.float64.specs.Arithmetic.{of};
-ghost use Rattle.event.specs.Records.{closedNumber, Counted, countsOf, numbersIn, recordBy};
+ghost use Rattle.records.specs.Records.{closedNumber, Counted, countsOf, numbersIn, recordBy, fitsIn, puts};
 use grid::DcSwitchingSimulator;
 use grid::present;
 use transient::DcTransientState;
@@ -29,7 +29,7 @@ pub fn record_counts(g: DcSwitchingSimulator) -> RecordCounts
     }
 }
 
-// Writes the record of a step that is recorded from a position on, and says how many records that were.
+// Writes the record of a step that is recorded from a position on, where the whole of it fits, and says how many records that were.
 pub fn put_if_recorded(
     recorded: bool,
     records: &mut [f64],
@@ -37,14 +37,35 @@ pub fn put_if_recorded(
     state: DcTransientState,
     counts: RecordCounts,
 ) -> usize
-    requires { ⌜ Counted counts × (recorded ≡ true → at + numbersIn counts ≤ length (now records)) ⌝ }
-    ensures { λ r. ⌜ (r ≡ cond recorded 1 0) × (now (records .exit) ≡ sets (now (records .entry)) at (cond recorded (recordBy counts state) [])) ⌝ }
+    ensures { λ r. ⌜ (r ≡ cond (puts recorded counts at (length (now (records .entry)))) 1 0) × (now (records .exit) ≡ sets (now (records .entry)) at (cond (puts recorded counts at (length (now (records .entry)))) (recordBy counts state) [])) ⌝ }
 {
-    if recorded {
+    if recorded & fits(counts, at, records.len()) {
         put_record(records, at, state, counts);
         return 1;
     }
     0
+}
+
+// No more parts than a state has places for, and the whole record within the memory.
+fn fits(counts: RecordCounts, at: usize, len: usize) -> bool
+    ensures { λ r. ⌜ r ≡ fitsIn counts at len ⌝ }
+{
+    if 32 < counts.stations {
+        return false;
+    }
+    if 64 < counts.cables {
+        return false;
+    }
+    if 32 < counts.breakers {
+        return false;
+    }
+    if len < at {
+        return false;
+    }
+    if len - at < 2 + counts.stations + counts.stations + counts.cables + counts.breakers {
+        return false;
+    }
+    true
 }
 
 fn put_record(records: &mut [f64], at: usize, state: DcTransientState, counts: RecordCounts)

@@ -1,7 +1,8 @@
 -- "a record is time, fault current, voltages, station currents, cable currents, breakers (1 closed, 0 open)". Definitions only.
 use Prim.Native.Nat.{ℕ, _+_, _≤_}
-use mathlib.Core.Bool.{Bool, true, false}
+use mathlib.Core.Bool.{Bool, true, false, not, _&&_}
 use mathlib.Core.List.{List, _∷_, _++_}
+use lib.Dec.{ltb}
 use lib.ListN.{length, getD}
 use lib.Ieee.{Float}
 use Rattle.lists.specs.Tables.{tab}
@@ -10,7 +11,7 @@ use Rattle.float64.specs.Arithmetic.{of}
 use Rattle.grid.specs.Simulator.{stationsOf, cablesOf, breakersOf}
 use Rattle.grid.specs.declared.simulator.DcSwitchingSimulator.{DcSwitchingSimulator}
 use Rattle.transient.specs.declared.state.DcTransientState.{DcTransientState}
-use Rattle.event.specs.declared.record.RecordCounts.{RecordCounts}
+use Rattle.records.specs.declared.record.RecordCounts.{RecordCounts}
 
 abbrev pub closedNumber : Bool → Float
 closedNumber true = one
@@ -45,3 +46,11 @@ pub record Counted (c : RecordCounts) : Type 0 where
 
 abbrev pub recordBy : RecordCounts → DcTransientState → List Float
 recordBy c s = recordWith (c .stations) (c .cables) (c .breakers) s
+
+-- they are no more, and a whole record fits behind a position of the memory
+abbrev pub fitsIn : RecordCounts → (at len : ℕ) → Bool
+fitsIn c at len = not (ltb 32 (c .stations)) && not (ltb 64 (c .cables)) && not (ltb 32 (c .breakers)) && not (ltb len (at + numbersIn c))
+
+-- a record is written
+abbrev pub puts : Bool → RecordCounts → (at len : ℕ) → Bool
+puts recorded c at len = recorded && fitsIn c at len

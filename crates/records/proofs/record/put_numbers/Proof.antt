@@ -9,8 +9,8 @@ use Prim.Native.Nat.{_+_, _-_, _≤_}
 use mathlib.Core.Path.{_≡_, refl}
 use Rattle.float64.specs.Arithmetic.{of}
 use borrow.Author.Needs.{needs}
-use Rattle.event.proofs.record.put_numbers.Statement.{statement}
-use Rattle.event.proofs.record.put_numbers.Tie as tie
+use Rattle.records.proofs.record.put_numbers.Statement.{statement}
+use Rattle.records.proofs.record.put_numbers.Tie as tie
 
 abbrev Inv-loop : tie.InvT-loop
 Inv-loop records₀ at numbers first n i₀ records i = (i ≤ n) × (length records ≡ length records₀) × (records ≡ sets records₀ at (tab i (λ k. of numbers (first + k))))

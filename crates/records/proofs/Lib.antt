@@ -1,0 +1,4 @@
+mod Parts
+pub mod Fitting
+pub mod Tied
+mod Controls
