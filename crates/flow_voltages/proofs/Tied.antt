@@ -6,7 +6,6 @@ use contract.Lifetimes.{Lfts}
 use borrow.Fn.World.{ArgsD, ResD}
 use borrow.Fn.Kinds.{endedOf}
 use denote.Triple.Clauses.{AtExit}
-use denote.Ref.{now}
 use Rattle.flow_voltages.specs.declared.voltages.Voltages.{Voltages}
 use Rattle.flow_voltages.specs.Balance.{currentsOf}
 use Rattle.flow_voltages.specs.Claims.{Stops, Spent}
@@ -14,9 +13,9 @@ use Rattle.flow_voltages.proofs.Claims.{pass-claims}
 use Rattle.flow_voltages.proofs.voltages.find_voltages as find-contract
 use Rattle.flow_voltages.proofs.voltages.find_voltages.Kinds as find-kinds
 use Rattle.flow_voltages.proofs.voltages.find_voltages.Reads as find-reads
-use Rattle.flow_voltages.proofs.balance.currents_at as currents-contract
-use Rattle.flow_voltages.proofs.balance.currents_at.Kinds as currents-kinds
-use Rattle.flow_voltages.proofs.balance.currents_at.Reads as currents-reads
+use Rattle.flow_voltages.proofs.voltages.find_with_currents as with-currents-contract
+use Rattle.flow_voltages.proofs.voltages.find_with_currents.Kinds as with-currents-kinds
+use Rattle.flow_voltages.proofs.voltages.find_with_currents.Reads as with-currents-reads
 
 module _ (κs : Lfts 0) (a : ArgsD find-contract.signature κs) (r : ResD find-contract.signature κs) (e : AtExit (endedOf 0 find-kinds.ps find-kinds.r) κs) where
   pub find-any : find-reads.Asked κs a
@@ -29,9 +28,9 @@ module _ (κs : Lfts 0) (a : ArgsD find-contract.signature κs) (r : ResD find-c
     pub find-spent : r .converged ≡ false → Spent (a .0) r
     find-spent f = rw h (pass-claims .not-converged (a .0) (ap (λ (x : Voltages). x .converged) (sym h) ∙ f))
 
-module _ (κs : Lfts 1) (a : ArgsD currents-contract.signature κs) (r : ResD currents-contract.signature κs) (e : AtExit (endedOf 1 currents-kinds.ps currents-kinds.r) κs) where
-  pub currents-any : currents-reads.Asked κs a
-  currents-any = tt
+module _ (κs : Lfts 0) (a : ArgsD with-currents-contract.signature κs) (r : ResD with-currents-contract.signature κs) (e : AtExit (endedOf 0 with-currents-kinds.ps with-currents-kinds.r) κs) where
+  pub with-currents-any : with-currents-reads.Asked κs a
+  with-currents-any = tt
 
-  pub currents-are : currents-reads.Learnt κs a r e → r ≡ currentsOf (a .0) (now (a .1 .0))
-  currents-are h = h
+  pub with-currents-are : with-currents-reads.Learnt κs a r e → r .«i_dc_ka» ≡ currentsOf (a .0) (r .voltages .«v_dc_kv»)
+  with-currents-are h = rw (h .0) (h .1)

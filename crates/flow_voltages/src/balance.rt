@@ -6,31 +6,14 @@ ghost use Rattle.lists.specs.Tables.{blank, over};
 ghost use Rattle.float64.specs.Constants.{nought};
 ghost use Rattle.float64.specs.Arithmetic.{_⊕_, _⊖_, _⊗_, of};
 ghost use Rattle.flow_voltages.specs.Conductances.{cell};
-ghost use Rattle.flow_voltages.specs.Balance.{currents, currentsOf, butFirst, mismatches, largest};
+ghost use Rattle.flow_voltages.specs.Balance.{currents, butFirst, mismatches, largest};
 ghost use Rattle.flow_voltages.specs.Symmetric.{Symmetric};
-use crate::conductances::conductances;
 use float64::abs;
 use float64::max;
-use grid::DcSwitchingSimulator;
-use grid::present;
-
-// The current of every station of any grid at given voltages.
-pub fn currents_at(g: DcSwitchingSimulator, v: &[f64; 32]) -> [f64; 32]
-    ensures { λ r. ⌜ r ≡ currentsOf g (now (v .entry)) ⌝ }
-{
-    let n = present(g.n_stations, 32);
-    let n_cables = present(g.n_cables, 64);
-    let cables = g.cables;
-    let mut m = [0.0; 1024];
-    conductances(&mut m, cables, n_cables, n);
-    let mut sums = [0.0; 32];
-    station_currents(&mut sums, &m, v, n);
-    sums
-}
 
 // The current of every station, into zeros. Column after column: for each station the products are added in the same order as along its
 // row, and a column is added to all stations at once.
-fn station_currents(sums: &mut [f64; 32], m: &[f64; 1024], v: &[f64; 32], n: usize)
+pub fn station_currents(sums: &mut [f64; 32], m: &[f64; 1024], v: &[f64; 32], n: usize)
     requires { ⌜ (n ≤ 32) × Symmetric n (m .now) × (sums .now ≡ blank 32 nought) ⌝ }
     ensures { λ _. ⌜ now (sums .exit) ≡ currents (now (m .entry)) n (now (v .entry)) ⌝ }
 {

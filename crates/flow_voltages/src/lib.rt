@@ -3,6 +3,7 @@ mod balance;
 mod conductances;
 mod voltages;
 
-pub use balance::currents_at;
+pub use voltages::Found;
 pub use voltages::Voltages;
 pub use voltages::find_voltages;
+pub use voltages::find_with_currents;

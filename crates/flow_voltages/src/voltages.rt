@@ -11,10 +11,11 @@ ghost use Rattle.float64.specs.Constants.{nought};
 ghost use Rattle.float64.specs.Arithmetic.{_⊗_, of};
 ghost use Rattle.flow_voltages.specs.Conductances.{cell};
 ghost use Rattle.flow_voltages.specs.Symmetric.{Symmetric};
-ghost use Rattle.flow_voltages.specs.Balance.{wantedPowers};
+ghost use Rattle.flow_voltages.specs.Balance.{wantedPowers, currentsOf};
 ghost use Rattle.flow_voltages.specs.Voltages as specs;
 ghost use Rattle.flow_voltages.specs.Voltages.{ratedVoltages, movedAll, movedTo, sumWithout, voltagesOf};
 use crate::balance::mismatches_at;
+use crate::balance::station_currents;
 use crate::conductances::conductances;
 use float64::abs;
 use float64::clamp;
@@ -36,6 +37,12 @@ pub struct Voltages {
     pub iterations: u64,
 }
 
+// The currents are those of the stations at the voltages.
+pub struct Found {
+    pub voltages: Voltages,
+    pub i_dc_ka: [f64; 32],
+}
+
 struct Outcome {
     converged: bool,
     iterations: u64,
@@ -45,13 +52,28 @@ struct Outcome {
 pub fn find_voltages(g: DcSwitchingSimulator) -> Voltages
     ensures { λ r. ⌜ r ≡ voltagesOf g ⌝ }
 {
+    let found = find_with_currents(g);
+    found.voltages
+}
+
+// Beside the voltages the currents at them, from the same conductances.
+pub fn find_with_currents(g: DcSwitchingSimulator) -> Found
+    ensures { λ r. ⌜ (r .voltages ≡ voltagesOf g) × (r .«i_dc_ka» ≡ currentsOf g (voltagesOf g .«v_dc_kv»)) ⌝ }
+{
     let n = present(g.n_stations, 32);
     let n_cables = present(g.n_cables, 64);
     let stations = g.stations;
     let cables = g.cables;
     let mut m = [0.0; 1024];
     conductances(&mut m, cables, n_cables, n);
-    run_passes(stations, n, &m)
+    let voltages = run_passes(stations, n, &m);
+    let v = voltages.v_dc_kv;
+    let mut sums = [0.0; 32];
+    station_currents(&mut sums, &m, &v, n);
+    Found {
+        voltages,
+        i_dc_ka: sums,
+    }
 }
 
 // Station 0 holds its voltage, the others their power.

@@ -1,13 +1,13 @@
 // The flow of a grid.
 ghost use mathlib.Core.Path.{_≡_};
 ghost use Rattle.rules.specs.Studies.{numberOf, flowRefusal};
+ghost use Rattle.flow_voltages.specs.Balance.{currentsOf};
 ghost use Rattle.power_flow.specs.Flow.{solutionAt, blankSolution, flowAnswer};
 use crate::solution;
 use converter::ConverterOperatingPoint;
 use converter::no_point;
-use flow_voltages::Voltages;
-use flow_voltages::currents_at;
-use flow_voltages::find_voltages;
+use flow_voltages::Found;
+use flow_voltages::find_with_currents;
 use grid::DcSwitchingSimulator;
 use grid::present;
 use rules::Verdict;
@@ -35,7 +35,7 @@ pub fn solve_dc_power_flow(g: DcSwitchingSimulator) -> FlowAnswer
 {
     let verdict = check_flow(g);
     if number(verdict) == 0 {
-        let found = find_voltages(g);
+        let found = find_with_currents(g);
         return FlowAnswer {
             verdict,
             solution: solution_at(g, found),
@@ -48,26 +48,28 @@ pub fn solve_dc_power_flow(g: DcSwitchingSimulator) -> FlowAnswer
 }
 
 // Operating points and losses of any grid at voltages: the cables' losses, then the stations'.
-fn solution_at(g: DcSwitchingSimulator, found: Voltages) -> DcGridSolution
-    ensures { λ r. ⌜ r ≡ solutionAt g found ⌝ }
+fn solution_at(g: DcSwitchingSimulator, found: Found) -> DcGridSolution
+    requires { ⌜ found .«i_dc_ka» ≡ currentsOf g (found .voltages .«v_dc_kv») ⌝ }
+    ensures { λ r. ⌜ r ≡ solutionAt g (found .voltages) ⌝ }
 {
     let n = present(g.n_stations, 32);
     let n_cables = present(g.n_cables, 64);
     let stations = g.stations;
     let cables = g.cables;
-    let v = found.v_dc_kv;
+    let voltages = found.voltages;
+    let v = voltages.v_dc_kv;
     let mut losses = [0.0; 64];
     solution::cable_losses(&mut losses, cables, n_cables, &v, n);
     let total = solution::sum_losses(&losses, n_cables);
-    let currents = currents_at(g, &v);
+    let currents = found.i_dc_ka;
     let made = solution::operating_points(stations, &v, &currents, n, total);
     let points = made.points;
     DcGridSolution {
         operating_points: points,
         cable_losses_mw: losses,
         total_losses_mw: made.total_losses_mw,
-        converged: found.converged,
-        iterations: found.iterations,
+        converged: voltages.converged,
+        iterations: voltages.iterations,
     }
 }
 

@@ -22,14 +22,11 @@ present-requires-2 c κs = search needs
 cable-losses-requires : tie.Need-cable-losses-requires
 unfolding blank
 cable-losses-requires c κs =
-    let k = c .before .before .before .before .before in
+    let k = c .before .before .before .before .before .before in
     (omega (arith, k .present2 .ensures), omega (arith, k .before .present .ensures), refl)
 
 sum-losses-requires : tie.Need-sum-losses-requires
 sum-losses-requires c κs = search needs
-
-currents-at-requires : tie.Need-currents-at-requires
-currents-at-requires c κs = search needs
 
 operating-points-requires : tie.Need-operating-points-requires
 operating-points-requires c κs = search needs
@@ -38,16 +35,15 @@ returns : tie.Need-returns
 unfolding solutionAt totalLosses
 returns c =
     let p = c .before in
-    let i = p .before .before .before in
-    let q = i .before .before in
+    let q = p .before .before .before .before in
     let l = q .before .before in
-    let k = l .before .before .before .before .before .before in
+    let k = l .before .before .before .before .before .before .before in
     let n = k .before in
     let s = n .before in
     let g = s .args .g in
-    let v = s .args .found .«v_dc_kv» in
+    let v = s .args .found .voltages .«v_dc_kv» in
     let few : n .present .result ≤ 32 = omega (arith, n .present .ensures) in
-    let flows : _ ≡ currents (conductancesOf g) (n .present .result) v = i .currents-at .ensures ∙ rw (n .present .ensures) in
+    let flows : _ ≡ currents (conductancesOf g) (n .present .result) v = s .pre ∙ rw (n .present .ensures) in
     let points = points-from (g .stations) (n .present .result) (conductancesOf g) v few flows (p .operating-points .ensures .0) in
     let total = total-from (g .stations) (n .present .result) (conductancesOf g) v few flows _ (p .operating-points .ensures .1) in
     let sum : _ ≡ sumOf (lossOf (g .cables) (n .present .result) v) (k .present2 .result) =
@@ -63,6 +59,5 @@ solution-at-spec =
     present-requires-2
     cable-losses-requires
     sum-losses-requires
-    currents-at-requires
     operating-points-requires
     returns)

@@ -13,11 +13,11 @@ check-flow-requires c κs = search needs
 number-requires : tie.Need-number-requires
 number-requires c κs = search needs
 
-find-voltages-requires : tie.Need-find-voltages-requires
-find-voltages-requires c κs = search needs
+find-with-currents-requires : tie.Need-find-with-currents-requires
+find-with-currents-requires c κs = search needs
 
 solution-at-requires : tie.Need-solution-at-requires
-solution-at-requires c κs = search needs
+solution-at-requires c κs = let f = c .find-with-currents .ensures in rw (f .0) (f .1)
 
 returns : tie.Need-returns
 unfolding flowAnswer
@@ -25,7 +25,7 @@ returns c =
     let i = c .before .before in
     let k = i .before .before in (
       k .check-flow .ensures,
-      c .solution-at .ensures ∙ rw (c .before .find-voltages .ensures, yes (flowRefusal (k .before .args .g)) 0 (i .before .number .ensures ∙ k .check-flow .ensures) (i .if1 .taken)),
+      c .solution-at .ensures ∙ rw (c .before .find-with-currents .ensures .0, yes (flowRefusal (k .before .args .g)) 0 (i .before .number .ensures ∙ k .check-flow .ensures) (i .if1 .taken)),
     )
 
 no-solution-requires : tie.Need-no-solution-requires
@@ -45,7 +45,7 @@ solve-dc-power-flow-spec =
     (tie.spec
     check-flow-requires
     number-requires
-    find-voltages-requires
+    find-with-currents-requires
     solution-at-requires
     returns
     no-solution-requires
