@@ -1,22 +1,26 @@
 -- The claims of specs/Claims. Assumes nothing.
 use Prim.Native.Nat.{ℕ, zero, suc, _-_, _≤_, _<_}
 use native.Mathlib.Nat.{le-refl, le-of-suc-le-suc, not-suc-le-zero}
-use mathlib.Core.Path.{_≡_, refl, sym, _∙_}
+use mathlib.Core.Path.{_≡_, refl, _∙_}
 use mathlib.Core.Bool.{true, false}
 use mathlib.Core.List.{List, [], _∷_}
 use borrow.Author.Tests.{le-leb, leb-true}
 use lib.Dec.{leb}
-use lib.IntN.{pos}
 use lib.ListN.{length, getD}
-use lib.Ieee.{nan, binary64, ofInt, le, lt, eq}
+use lib.Ieee.{nan, le, lt, eq}
 use Rattle.lists.proofs.Scanning.{and-second, passed}
-use Rattle.grid.specs.Ranges.{Ends, ends, table, rowOf, realIn, wholeIn}
+use Rattle.grid.specs.Ranges.{Ends, ends, table, rowOf, asDoubles, between, realIn, wholeIn}
+use Rattle.grid.specs.declared.ranges.Range.{Range}
 use Rattle.grid.specs.Claims.{RangeClaims}
-use Rattle.grid.proofs.Table.{whole-real, whole-past, low-small, high-small}
+use Rattle.grid.proofs.WholeNumbers.{whole-real, whole-past, low-small, high-small, all-small}
+
+pub nan-between : (r : Range) → between r nan ≡ false
+unfolding le lt eq
+nan-between r = and-second (le (r .0) nan) false refl
 
 nan-out : (e : Ends) → realIn e nan ≡ false
-unfolding realIn le lt eq
-nan-out e = and-second (le (ofInt binary64 (pos (e .low))) nan) false refl
+unfolding realIn
+nan-out e = nan-between (asDoubles e)
 
 -- within a list it does not matter what is read past it
 same-row : {A : Type 0} (xs : List A) (k : ℕ) (y z : A) → k < length xs → getD xs k y ≡ getD xs k z
@@ -25,7 +29,7 @@ same-row (x ∷ xs) zero y z h = refl
 same-row (x ∷ xs) (suc k) y z h = same-row xs k y z (le-of-suc-le-suc h)
 
 -- no row has its ends the other way round
-ordered : (k : ℕ) → k < 20 → rowOf k .low ≤ rowOf k .high
+ordered : (k : ℕ) → k < 33 → rowOf k .low ≤ rowOf k .high
 ordered k h = rw (same-row table k (ends 1 0) (ends 0 0) h) (leb-true _ _ (passed (λ e. leb (e .low) (e .high)) (ends 0 0) table k refl refl))
 
 wholly : (e : Ends) (n : ℕ) → e .low ≤ n → n ≤ e .high → wholeIn e n ≡ true
@@ -36,8 +40,8 @@ pub range-claims : RangeClaims
 range-claims =
     record {
       nan-outside = nan-out;
-      low-inside = λ k h. whole-real k (rowOf k .low) (low-small k) ∙ wholly (rowOf k) (rowOf k .low) (le-refl _) (ordered k h);
-      high-inside = λ k h. whole-real k (rowOf k .high) (high-small k) ∙ wholly (rowOf k) (rowOf k .high) (ordered k h) (le-refl _);
-      whole = whole-real;
-      whole-past = λ k n h. sym (whole-past k n h);
+      low-inside = λ k h. whole-real (rowOf k) (all-small k) (rowOf k .low) (low-small (rowOf k) (all-small k)) ∙ wholly (rowOf k) (rowOf k .low) (le-refl _) (ordered k h);
+      high-inside = λ k h. whole-real (rowOf k) (all-small k) (rowOf k .high) (high-small (rowOf k) (all-small k)) ∙ wholly (rowOf k) (rowOf k .high) (ordered k h) (le-refl _);
+      whole = λ k. whole-real (rowOf k) (all-small k);
+      whole-past = λ k. whole-past (rowOf k) (all-small k);
     }

@@ -81,7 +81,8 @@ unfolding reals nextBelow nextAbove realIn le lt eq ofInt ofBits toBits round ne
 ranges-are = refl
 
 whole-ranges-are : every wholes (
-    row range.tenth 0 10 ∷
+    row range.lowTenth 0 10 ∷
+    row range.highTenth 0 10 ∷
     row range.stationId 0 65535 ∷
     row range.cableId 0 65535 ∷
     row range.breakerId 0 65535 ∷

@@ -1,4 +1,4 @@
-pub mod Table
+pub mod WholeNumbers
 pub mod Claims
 pub mod Tied
 mod Controls

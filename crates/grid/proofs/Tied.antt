@@ -7,8 +7,7 @@ use borrow.Fn.World.{ArgsD, ResD}
 use borrow.Fn.Kinds.{endedOf}
 use denote.Triple.Clauses.{AtExit}
 use lib.Ieee.{nan}
-use Rattle.grid.specs.Ranges.{rowOf}
-use Rattle.grid.proofs.Claims.{range-claims}
+use Rattle.grid.proofs.Claims.{nan-between}
 use Rattle.grid.proofs.ranges.in_range as in-range-contract
 use Rattle.grid.proofs.ranges.in_range.Kinds as in-range-kinds
 use Rattle.grid.proofs.ranges.in_range.Reads as in-range-reads
@@ -36,7 +35,7 @@ module _ (κs : Lfts 0) (a : ArgsD in-range-contract.signature κs) (r : ResD in
   in-range-any = tt
 
   pub nan-refused : in-range-reads.Learnt κs a r e → a .1 .0 ≡ nan → r ≡ false
-  nan-refused h n = rw n at h ∙ range-claims .nan-outside (rowOf (a .0))
+  nan-refused h n = rw n at h ∙ nan-between (a .0)
 
 module _ (κs : Lfts 0) where
   pub whole-in-range-any : (a : ArgsD whole-in-range-contract.signature κs) → whole-in-range-reads.Asked κs a

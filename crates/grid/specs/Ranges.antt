@@ -1,11 +1,12 @@
 -- The accepted values of document 01: "one table of lows and highs, ends included; NaN is outside every range". Definitions only.
-use Prim.Native.Nat.{ℕ}
+use Prim.Native.Nat.{ℕ, _^_}
 use mathlib.Core.Bool.{Bool, _&&_}
 use mathlib.Core.List.{List, [], _∷_}
-use lib.Dec.{leb}
+use lib.Dec.{leb, ltb}
 use lib.IntN.{pos}
 use lib.ListN.{getD}
 use lib.Ieee.{Float, binary64, ofInt, le}
+use Rattle.grid.specs.declared.ranges.Range.{Range}
 
 -- both ends are accepted
 pub record Ends : Type 0 where
@@ -15,9 +16,21 @@ pub record Ends : Type 0 where
 abbrev pub ends : ℕ → ℕ → Ends
 ends l h = record { low = l; high = h }
 
--- a double lies in the range. A NaN lies in none: no comparison with it is true.
+-- a double lies between two doubles. A NaN lies between none: no comparison with it is true.
+abbrev pub between : Range → Float → Bool
+between r x = le (r .0) x && le x (r .1)
+
+-- a whole number does, as the double that it is. From 2 ^ 53 up not every one is a double, and no range goes so far.
+unfoldable pub wholeBetween : Range → ℕ → Bool
+wholeBetween r n = ltb n (2 ^ 53) && between r (ofInt binary64 (pos n))
+
+-- the ends as the code's table has them
+abbrev pub asDoubles : Ends → Range
+asDoubles e = (ofInt binary64 (pos (e .low)), ofInt binary64 (pos (e .high)))
+
+-- a double lies in the range
 unfoldable pub realIn : Ends → Float → Bool
-realIn e x = le (ofInt binary64 (pos (e .low))) x && le x (ofInt binary64 (pos (e .high)))
+realIn e x = between (asDoubles e) x
 
 -- a whole number lies in the range
 unfoldable pub wholeIn : Ends → ℕ → Bool
@@ -34,7 +47,7 @@ abbrev pub transformerReactance : Ends
 transformerReactance = ends 0 1000
 
 abbrev pub shortCircuitRatio : Ends
-shortCircuitRatio = transformerReactance
+shortCircuitRatio = ends 0 1000
 
 abbrev pub controlAngle : Ends
 controlAngle = ends 0 180
@@ -49,33 +62,27 @@ abbrev pub submoduleCapacitance : Ends
 submoduleCapacitance = ends 0 100000
 
 -- cable: per km R, L, C 0 to 1,000; length 0 to 10,000
-abbrev pub perKm : Ends
-perKm = ends 0 1000
-
 abbrev pub resistancePerKm : Ends
-resistancePerKm = perKm
+resistancePerKm = ends 0 1000
 
 abbrev pub inductancePerKm : Ends
-inductancePerKm = perKm
+inductancePerKm = ends 0 1000
 
 abbrev pub capacitancePerKm : Ends
-capacitancePerKm = perKm
+capacitancePerKm = ends 0 1000
 
 abbrev pub cableLength : Ends
 cableLength = ends 0 10000
 
 -- breaker: each time 0 to 100,000; on-state loss 0 to 100; breaking current 0 to 1,000; energy 0 to 100,000
-abbrev pub eachTime : Ends
-eachTime = ends 0 100000
-
 abbrev pub openingTime : Ends
-openingTime = eachTime
+openingTime = ends 0 100000
 
 abbrev pub turnOffTime : Ends
-turnOffTime = eachTime
+turnOffTime = ends 0 100000
 
 abbrev pub commutationTime : Ends
-commutationTime = eachTime
+commutationTime = ends 0 100000
 
 abbrev pub onStateLoss : Ends
 onStateLoss = ends 0 100
@@ -96,8 +103,11 @@ faultFraction = ends 0 1
 abbrev pub inceptionTime : Ends
 inceptionTime = ends 0 100000
 
-abbrev pub tenth : Ends
-tenth = ends 0 10
+abbrev pub lowTenth : Ends
+lowTenth = ends 0 10
+
+abbrev pub highTenth : Ends
+highTenth = ends 0 10
 
 -- time step 0 to 1,000,000 µs; duration 0 to 100,000 ms
 abbrev pub timeStep : Ends
@@ -107,42 +117,39 @@ abbrev pub duration : Ends
 duration = ends 0 100000
 
 -- ids, station and cable numbers, submodules: 0 to 65,535
-abbrev pub wholeNumber : Ends
-wholeNumber = ends 0 65535
-
 abbrev pub stationId : Ends
-stationId = wholeNumber
+stationId = ends 0 65535
 
 abbrev pub cableId : Ends
-cableId = wholeNumber
+cableId = ends 0 65535
 
 abbrev pub breakerId : Ends
-breakerId = wholeNumber
+breakerId = ends 0 65535
 
 abbrev pub breakerStation : Ends
-breakerStation = wholeNumber
+breakerStation = ends 0 65535
 
 abbrev pub fromStation : Ends
-fromStation = wholeNumber
+fromStation = ends 0 65535
 
 abbrev pub toStation : Ends
-toStation = wholeNumber
+toStation = ends 0 65535
 
 abbrev pub faultedCable : Ends
-faultedCable = wholeNumber
+faultedCable = ends 0 65535
 
 abbrev pub submodules : Ends
-submodules = wholeNumber
+submodules = ends 0 65535
 
--- the table: a row for each range of the list, in its order
+-- the table: a row for each field of the list, in its order
 abbrev pub table : List Ends
 table =
-    ratedKv ∷ ratedMw ∷ transformerReactance ∷ controlAngle ∷ commutationReactance ∷ armInductance ∷ submoduleCapacitance ∷
-    perKm ∷ cableLength ∷
-    eachTime ∷ onStateLoss ∷ breakingCurrent ∷ absorbedEnergy ∷
-    faultResistance ∷ faultFraction ∷ inceptionTime ∷ tenth ∷
+    ratedKv ∷ ratedMw ∷ transformerReactance ∷ shortCircuitRatio ∷ controlAngle ∷ commutationReactance ∷ armInductance ∷ submoduleCapacitance ∷
+    resistancePerKm ∷ inductancePerKm ∷ capacitancePerKm ∷ cableLength ∷
+    openingTime ∷ turnOffTime ∷ commutationTime ∷ onStateLoss ∷ breakingCurrent ∷ absorbedEnergy ∷
+    faultResistance ∷ faultFraction ∷ inceptionTime ∷ lowTenth ∷ highTenth ∷
     timeStep ∷ duration ∷
-    wholeNumber ∷
+    stationId ∷ cableId ∷ breakerId ∷ breakerStation ∷ fromStation ∷ toStation ∷ faultedCable ∷ submodules ∷
     []
 
 -- the row at a position; past the last there is nothing to accept

@@ -69,6 +69,6 @@ unfoldable pub orderOk : SweepOrder → Bool
 orderOk o =
     realIn range.faultResistance (o .«fault_resistance») &&
     realIn range.inceptionTime (o .«inception_time_ms») &&
-    wholeIn range.tenth (o .«low_tenth») &&
+    wholeIn range.lowTenth (o .«low_tenth») &&
     leb (o .«low_tenth») (o .«high_tenth») &&
-    wholeIn range.tenth (o .«high_tenth»)
+    wholeIn range.highTenth (o .«high_tenth»)

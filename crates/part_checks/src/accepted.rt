@@ -108,7 +108,7 @@ pub fn check_order(o: SweepOrder) -> bool
 {
     let resistance = in_range(ranges::FAULT_RESISTANCE, o.fault_resistance);
     let inception = in_range(ranges::INCEPTION_TIME_MS, o.inception_time_ms);
-    let low = whole_in_range(ranges::TENTH, o.low_tenth);
-    let high = whole_in_range(ranges::TENTH, o.high_tenth);
+    let low = whole_in_range(ranges::LOW_TENTH, o.low_tenth);
+    let high = whole_in_range(ranges::HIGH_TENTH, o.high_tenth);
     resistance & inception & low & (o.low_tenth <= o.high_tenth) & high
 }

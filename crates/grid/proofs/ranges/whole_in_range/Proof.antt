@@ -1,15 +1,17 @@
 -- `whole_in_range` meets its contract. Assumes nothing.
 use borrow.Author.Needs.{needs}
-use mathlib.Core.Path.{_∙_}
+use borrow.Author.Tests.{lt-ltb, le-ltb}
+use mathlib.Core.Path.{_∙_, sym}
 use lib.Dec.{le→leb}
 use lib.Ieee.{inFloat}
 use native.Mathlib.Nat.{le-of-lt}
-use Rattle.grid.proofs.Table.{whole-real, whole-past}
+use Rattle.grid.specs.Ranges.{wholeBetween}
 use Rattle.grid.proofs.ranges.whole_in_range.Statement.{statement}
 use Rattle.grid.proofs.ranges.whole_in_range.Tie as tie
 
 returns : tie.Need-returns
-returns c = whole-past (c .before .args .field) _ (c .if1 .taken)
+unfolding wholeBetween
+returns c = rw (le-ltb _ _ (c .if1 .taken))
 
 int-to-float-in-range : tie.Need-int-to-float-in-range
 unfolding inFloat
@@ -19,7 +21,8 @@ in-range-requires : tie.Need-in-range-requires
 in-range-requires c κs = search needs
 
 returns-2 : tie.Need-returns-2
-returns-2 c = c .in-range .ensures ∙ whole-real (c .before .before .before .args .field) _ (c .before .before .if1 .left)
+unfolding wholeBetween
+returns-2 c = rw (lt-ltb _ _ (c .before .before .if1 .left)) (c .in-range .ensures)
 
 pub whole-in-range-spec : {M : Type 1} → statement M
 whole-in-range-spec = tie.close (tie.spec returns int-to-float-in-range in-range-requires returns-2)

@@ -1,6 +1,8 @@
 -- `kept_time_step` meets its contract. Assumes nothing.
 use mathlib.Core.Path.{sym, _∙_}
 use borrow.Author.Needs.{needs}
+use lib.Ieee.{ofBits, ofInt, round}
+use Rattle.grid.specs.Ranges.{realIn}
 use Rattle.grid.specs.Simulator.{keptTimeStep}
 use Rattle.grid.proofs.simulator.kept_time_step.Statement.{statement}
 use Rattle.grid.proofs.simulator.kept_time_step.Tie as tie
@@ -12,11 +14,11 @@ in-range-requires : tie.Need-in-range-requires
 in-range-requires c κs = search needs
 
 returns : tie.Need-returns
-unfolding keptTimeStep
+unfolding keptTimeStep realIn ofBits ofInt round
 returns c = rw (sym (c .before .in-range .ensures) ∙ c .if1 .taken) (c .before .before .max .ensures)
 
 returns-2 : tie.Need-returns-2
-unfolding keptTimeStep
+unfolding keptTimeStep realIn ofBits ofInt round
 returns-2 c = rw (sym (c .before .in-range .ensures) ∙ c .if1 .left)
 
 pub kept-time-step-spec : {M : Type 1} → statement M

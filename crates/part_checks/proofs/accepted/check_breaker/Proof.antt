@@ -1,6 +1,11 @@
 -- `check_breaker` meets its contract. Assumes nothing.
 use Rattle.part_checks.specs.PartChecks.{breakerOk}
+use mathlib.Core.Path.{refl, _∙_}
 use borrow.Author.Needs.{needs}
+use lib.Ieee.{ofBits, ofInt, round}
+use Rattle.grid.specs.Ranges as range
+use Rattle.grid.proofs.WholeNumbers.{whole-is}
+use Rattle.grid.specs.Ranges.{realIn}
 use Rattle.part_checks.proofs.accepted.check_breaker.Statement.{statement}
 use Rattle.part_checks.proofs.accepted.check_breaker.Tie as tie
 
@@ -20,8 +25,8 @@ in-range-requires-2 : tie.Need-in-range-requires-2
 in-range-requires-2 c κs = search needs
 
 returns : tie.Need-returns
-unfolding breakerOk
-returns c = rw (c .before .before .before .before .check-breaker-type .ensures, c .before .before .before .whole-in-range .ensures, c .before .before .whole-in-range2 .ensures, c .before .in-range .ensures, c .in-range2 .ensures)
+unfolding breakerOk realIn ofBits ofInt round
+returns c = rw (c .before .before .before .before .check-breaker-type .ensures, c .before .before .before .whole-in-range .ensures ∙ whole-is range.breakerId refl _, c .before .before .whole-in-range2 .ensures ∙ whole-is range.breakerStation refl _, c .before .in-range .ensures, c .in-range2 .ensures)
 
 pub check-breaker-spec : {M : Type 1} → statement M
 check-breaker-spec =

@@ -1,6 +1,11 @@
 -- `check_cable` meets its contract. Assumes nothing.
 use Rattle.part_checks.specs.PartChecks.{cableOk}
+use mathlib.Core.Path.{refl, _∙_}
 use borrow.Author.Needs.{needs}
+use lib.Ieee.{ofBits, ofInt, round}
+use Rattle.grid.specs.Ranges as range
+use Rattle.grid.proofs.WholeNumbers.{whole-is}
+use Rattle.grid.specs.Ranges.{realIn}
 use Rattle.part_checks.proofs.accepted.check_cable.Statement.{statement}
 use Rattle.part_checks.proofs.accepted.check_cable.Tie as tie
 
@@ -26,8 +31,8 @@ in-range-requires-4 : tie.Need-in-range-requires-4
 in-range-requires-4 c κs = search needs
 
 returns : tie.Need-returns
-unfolding cableOk
-returns c = rw (c .before .before .before .before .before .before .whole-in-range .ensures, c .before .before .before .before .before .whole-in-range2 .ensures, c .before .before .before .before .whole-in-range3 .ensures, c .before .before .before .in-range .ensures, c .before .before .in-range2 .ensures, c .before .in-range3 .ensures, c .in-range4 .ensures)
+unfolding cableOk realIn ofBits ofInt round
+returns c = rw (c .before .before .before .before .before .before .whole-in-range .ensures ∙ whole-is range.cableId refl _, c .before .before .before .before .before .whole-in-range2 .ensures ∙ whole-is range.fromStation refl _, c .before .before .before .before .whole-in-range3 .ensures ∙ whole-is range.toStation refl _, c .before .before .before .in-range .ensures, c .before .before .in-range2 .ensures, c .before .in-range3 .ensures, c .in-range4 .ensures)
 
 pub check-cable-spec : {M : Type 1} → statement M
 check-cable-spec =

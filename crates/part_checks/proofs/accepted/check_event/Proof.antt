@@ -1,6 +1,11 @@
 -- `check_event` meets its contract. Assumes nothing.
 use Rattle.part_checks.specs.PartChecks.{faultOk}
+use mathlib.Core.Path.{refl, _∙_}
 use borrow.Author.Needs.{needs}
+use lib.Ieee.{ofBits, ofInt, round}
+use Rattle.grid.specs.Ranges as range
+use Rattle.grid.proofs.WholeNumbers.{whole-is}
+use Rattle.grid.specs.Ranges.{realIn}
 use Rattle.part_checks.proofs.accepted.check_event.Statement.{statement}
 use Rattle.part_checks.proofs.accepted.check_event.Tie as tie
 
@@ -17,8 +22,8 @@ in-range-requires-3 : tie.Need-in-range-requires-3
 in-range-requires-3 c κs = search needs
 
 returns : tie.Need-returns
-unfolding faultOk
-returns c = rw (c .before .before .before .whole-in-range .ensures, c .before .before .in-range .ensures, c .before .in-range2 .ensures, c .in-range3 .ensures)
+unfolding faultOk realIn ofBits ofInt round
+returns c = rw (c .before .before .before .whole-in-range .ensures ∙ whole-is range.faultedCable refl _, c .before .before .in-range .ensures, c .before .in-range2 .ensures, c .in-range3 .ensures)
 
 pub check-event-spec : {M : Type 1} → statement M
 check-event-spec =

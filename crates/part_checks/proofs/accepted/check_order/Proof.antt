@@ -1,6 +1,11 @@
 -- `check_order` meets its contract. Assumes nothing.
 use Rattle.part_checks.specs.PartChecks.{orderOk}
+use mathlib.Core.Path.{refl, _∙_}
 use borrow.Author.Needs.{needs}
+use lib.Ieee.{ofBits, ofInt, round}
+use Rattle.grid.specs.Ranges as range
+use Rattle.grid.proofs.WholeNumbers.{whole-is}
+use Rattle.grid.specs.Ranges.{realIn}
 use Rattle.part_checks.proofs.accepted.check_order.Statement.{statement}
 use Rattle.part_checks.proofs.accepted.check_order.Tie as tie
 
@@ -17,8 +22,8 @@ whole-in-range-requires-2 : tie.Need-whole-in-range-requires-2
 whole-in-range-requires-2 c κs = search needs
 
 returns : tie.Need-returns
-unfolding orderOk
-returns c = rw (c .before .before .before .before .in-range .ensures, c .before .before .before .in-range2 .ensures, c .before .before .whole-in-range .ensures, c .before .whole-in-range2 .ensures)
+unfolding orderOk realIn ofBits ofInt round
+returns c = rw (c .before .before .before .before .in-range .ensures, c .before .before .before .in-range2 .ensures, c .before .before .whole-in-range .ensures ∙ whole-is range.lowTenth refl _, c .before .whole-in-range2 .ensures ∙ whole-is range.highTenth refl _)
 
 pub check-order-spec : {M : Type 1} → statement M
 check-order-spec =

@@ -1,6 +1,11 @@
 -- `check_station` meets its contract. Assumes nothing.
 use Rattle.part_checks.specs.PartChecks.{stationOk}
+use mathlib.Core.Path.{refl, _∙_}
 use borrow.Author.Needs.{needs}
+use lib.Ieee.{ofBits, ofInt, round}
+use Rattle.grid.specs.Ranges as range
+use Rattle.grid.proofs.WholeNumbers.{whole-is}
+use Rattle.grid.specs.Ranges.{realIn}
 use Rattle.part_checks.proofs.accepted.check_station.Statement.{statement}
 use Rattle.part_checks.proofs.accepted.check_station.Tie as tie
 
@@ -35,8 +40,8 @@ in-range-requires-8 : tie.Need-in-range-requires-8
 in-range-requires-8 c κs = search needs
 
 returns : tie.Need-returns
-unfolding stationOk
-returns c = rw (c .before .before .before .before .before .before .before .before .before .check-topology .ensures, c .before .before .before .before .before .before .before .before .whole-in-range .ensures, c .before .before .before .before .before .before .before .in-range .ensures, c .before .before .before .before .before .before .in-range2 .ensures, c .before .before .before .before .before .in-range3 .ensures, c .before .before .before .before .in-range4 .ensures, c .before .before .before .in-range5 .ensures, c .before .before .in-range6 .ensures, c .before .in-range7 .ensures, c .in-range8 .ensures)
+unfolding stationOk realIn ofBits ofInt round
+returns c = rw (c .before .before .before .before .before .before .before .before .before .check-topology .ensures, c .before .before .before .before .before .before .before .before .whole-in-range .ensures ∙ whole-is range.stationId refl _, c .before .before .before .before .before .before .before .in-range .ensures, c .before .before .before .before .before .before .in-range2 .ensures, c .before .before .before .before .before .in-range3 .ensures, c .before .before .before .before .in-range4 .ensures, c .before .before .before .in-range5 .ensures, c .before .before .in-range6 .ensures, c .before .in-range7 .ensures, c .in-range8 .ensures)
 
 pub check-station-spec : {M : Type 1} → statement M
 check-station-spec =

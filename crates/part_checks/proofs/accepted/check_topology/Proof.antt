@@ -1,7 +1,10 @@
 -- `check_topology` meets its contract. Assumes nothing.
 use Rattle.part_checks.specs.PartChecks.{topologyOk}
-use mathlib.Core.Path.{sym, ap, _∙_}
+use mathlib.Core.Path.{refl, sym, ap, _∙_}
 use borrow.Author.Needs.{needs}
+use lib.Ieee.{ofBits, ofInt, round}
+use Rattle.grid.specs.Ranges as range
+use Rattle.grid.proofs.WholeNumbers.{whole-is}
 use Rattle.part_checks.proofs.accepted.check_topology.Statement.{statement}
 use Rattle.part_checks.proofs.accepted.check_topology.Tie as tie
 
@@ -21,19 +24,19 @@ enum-told-3 : tie.Need-enum-told-3
 enum-told-3 c = search needs
 
 returns : tie.Need-returns
-unfolding topologyOk
+unfolding topologyOk ofBits ofInt round
 returns c = ap topologyOk (sym (c .enum-told .given .1))
 
 returns-2 : tie.Need-returns-2
-unfolding topologyOk
+unfolding topologyOk ofBits ofInt round
 returns-2 c = ap topologyOk (sym (c .enum-told2 .given .1))
 
 returns-3 : tie.Need-returns-3
-unfolding topologyOk
-returns-3 c = c .whole-in-range .ensures ∙ ap topologyOk (sym (c .before .before .topology .given .1))
+unfolding topologyOk ofBits ofInt round
+returns-3 c = c .whole-in-range .ensures ∙ whole-is range.submodules refl _ ∙ ap topologyOk (sym (c .before .before .topology .given .1))
 
 returns-4 : tie.Need-returns-4
-unfolding topologyOk
+unfolding topologyOk ofBits ofInt round
 returns-4 c = ap topologyOk (sym (c .enum-told3 .given .1))
 
 pub check-topology-spec : {M : Type 1} → statement M

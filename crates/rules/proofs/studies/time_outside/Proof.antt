@@ -1,6 +1,8 @@
 -- `time_outside` meets its contract. Assumes nothing.
 use Rattle.rules.specs.Studies.{timeOutside}
 use borrow.Author.Needs.{needs}
+use lib.Ieee.{ofBits, ofInt, round}
+use Rattle.grid.specs.Ranges.{realIn}
 use Rattle.rules.proofs.studies.time_outside.Statement.{statement}
 use Rattle.rules.proofs.studies.time_outside.Tie as tie
 
@@ -11,7 +13,7 @@ in-range-requires-2 : tie.Need-in-range-requires-2
 in-range-requires-2 c κs = search needs
 
 returns : tie.Need-returns
-unfolding timeOutside
+unfolding timeOutside realIn ofBits ofInt round
 returns c = rw (c .before .in-range .ensures, c .in-range2 .ensures)
 
 pub time-outside-spec : {M : Type 1} → statement M
