@@ -5,7 +5,7 @@ use lib.Ieee.{Float, binary64, ofBits, ofInt, round, neg, add, sub, mul, div, lt
 use Rattle.float64.specs.Constants.{nought, one, decimal}
 use Rattle.float64.specs.Choice.{maxOf, minOf, absOf, clampOf}
 use Rattle.square_root.specs.Root.{rootOf, floorRoot, nearestRoot}
-use Rattle.float64.specs.Wave.{C, series}
+use Rattle.elementary.specs.Wave.{C, series}
 use Rattle.grid.specs.declared.parts.ConverterTopology.{ConverterTopology}
 use Rattle.grid.specs.declared.parts.ConverterTopology.the-variants.{Lcc, TwoLevelVsc, Mmc, Hybrid}
 use Rattle.grid.specs.declared.parts.ConverterStation.{ConverterStation}

@@ -5,7 +5,7 @@ use Rattle.square_root.specs.Constants.{sqrt2}
 use Rattle.float64.specs.Arithmetic.{_⊕_, _⊖_, _⊗_, _⊘_, squared}
 use Rattle.float64.specs.Choice.{maxOf, minOf, absOf, clampOf}
 use Rattle.float64.specs.Angle.{radiansOf}
-use Rattle.float64.specs.Wave.{C}
+use Rattle.elementary.specs.Wave.{C}
 use Rattle.grid.specs.declared.parts.ConverterStation.{ConverterStation}
 use Rattle.converter.specs.declared.answer.ConverterOperatingPoint.{ConverterOperatingPoint}
 use Rattle.converter.specs.Answer.{accepted}

@@ -13,8 +13,8 @@ use Rattle.lists.proofs.Scanning.{both, every-of}
 use Rattle.float64.specs.Constants.{nought, one, kilo, pico}
 use Rattle.float64.specs.Arithmetic.{_⊖_, _⊗_, _⊘_}
 use Rattle.float64.specs.Choice.{absOf}
-use Rattle.float64.specs.Exponential.{E}
-use Rattle.float64.proofs.ExpBound.{E-between}
+use Rattle.elementary.specs.Exponential.{E}
+use Rattle.elementary.proofs.ExpBound.{E-between}
 use Rattle.float64.proofs.Range.{UpTo, wider}
 use Rattle.grid.specs.declared.parts.DcFaultEvent.{DcFaultEvent}
 use Rattle.grid.specs.declared.simulator.DcSwitchingSimulator.{DcSwitchingSimulator}

@@ -6,8 +6,9 @@ use lib.Ieee.{Float, binary64, ofBits, ofInt, round, neg, add, sub, mul, div, lt
 use Rattle.float64.specs.Constants.{nought, one, decimal}
 use Rattle.float64.specs.Choice.{maxOf, absOf, clampOf}
 use Rattle.square_root.specs.Root.{rootOf, floorRoot, nearestRoot}
-use Rattle.float64.specs.Exponential.{E, terms, squared}
-use Rattle.float64.specs.Wave.{S, series, reducedAngle, wholePart}
+use Rattle.elementary.specs.Exponential.{E, terms, squared}
+use Rattle.float64.specs.Whole.{wholePart}
+use Rattle.elementary.specs.Wave.{S, series, reducedAngle}
 use Rattle.grid.specs.declared.parts.ConverterTopology.the-variants.{Lcc}
 use Rattle.grid.specs.declared.parts.ConverterStation.{ConverterStation}
 use Rattle.grid.specs.declared.parts.DcFaultType.{DcFaultType}

@@ -6,7 +6,7 @@ use mathlib.Core.List.{List, [], _∷_}
 use lib.Ieee.{Float, le}
 use Rattle.lists.specs.Scans.{every}
 use Rattle.float64.specs.Constants.{nought, one}
-use Rattle.float64.specs.Exponential.{E}
+use Rattle.elementary.specs.Exponential.{E}
 use Rattle.grid.specs.Ranges as range
 use Rattle.grid.specs.Ranges.{ends, realIn}
 use Rattle.grid.specs.Simulator.{stationsOf, cablesOf}

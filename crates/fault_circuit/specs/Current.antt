@@ -5,8 +5,8 @@ use lib.Ieee.{Float, lt, neg}
 use Rattle.float64.specs.Constants.{nought, milli, kilo, pico}
 use Rattle.float64.specs.Arithmetic.{_⊖_, _⊗_, _⊘_}
 use Rattle.float64.specs.Choice.{maxOf, absOf}
-use Rattle.float64.specs.Exponential.{E}
-use Rattle.float64.specs.Wave.{S}
+use Rattle.elementary.specs.Exponential.{E}
+use Rattle.elementary.specs.Wave.{S}
 use Rattle.grid.specs.declared.parts.DcFaultType.{DcFaultType}
 use Rattle.fault_circuit.specs.declared.parameters.RlcParameters.{RlcParameters}
 use Rattle.fault_circuit.specs.declared.circuit.Response.{Response}

@@ -4,10 +4,10 @@ ghost use Rattle.fault_circuit.specs.Current as specs;
 ghost use Rattle.fault_circuit.specs.Current.{secondsSince, currentOf, decayedOf};
 use crate::circuit::FaultCircuit;
 use crate::circuit::Response;
+use elementary::exp;
+use elementary::sin;
 use float64::abs;
-use float64::exp;
 use float64::max;
-use float64::sin;
 
 pub fn fault_current_ka(circuit: FaultCircuit, t_ms: f64) -> f64
     ensures { λ r. ⌜ r ≡ currentOf circuit «t_ms» ⌝ }

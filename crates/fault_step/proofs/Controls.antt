@@ -11,8 +11,9 @@ use Rattle.float64.specs.Constants.{nought, one, half, decimal}
 use Rattle.float64.specs.Arithmetic.{_⊕_, _⊖_, _⊗_, of}
 use Rattle.float64.specs.Choice.{maxOf, minOf, absOf, clampOf}
 use Rattle.square_root.specs.Root.{rootOf, floorRoot, nearestRoot}
-use Rattle.float64.specs.Exponential.{E, terms, squared}
-use Rattle.float64.specs.Wave.{S, series, reducedAngle, wholePart}
+use Rattle.elementary.specs.Exponential.{E, terms, squared}
+use Rattle.float64.specs.Whole.{wholePart}
+use Rattle.elementary.specs.Wave.{S, series, reducedAngle}
 use Rattle.grid.specs.declared.parts.ConverterTopology.{ConverterTopology}
 use Rattle.grid.specs.declared.parts.ConverterTopology.the-variants.{Lcc, TwoLevelVsc, Mmc}
 use Rattle.grid.specs.declared.parts.ConverterStation.{ConverterStation}

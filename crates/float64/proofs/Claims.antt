@@ -7,22 +7,17 @@ use lib.Dec.{T}
 use lib.Ieee.{Float, nan, inf, fin, binary64, up, down, fits, isNan, toBits}
 use lib.Ieee.Bits.{ofBits-toBits, toBits-ofBits}
 use lib.Ieee.Exact.{HasValue}
-use Rattle.float64.specs.Wave.{wholePart}
+use Rattle.float64.specs.Whole.{wholePart}
 use Rattle.float64.specs.Pattern.{bitsOf, doubleOf}
-use Rattle.float64.specs.Claims.{ExponentialClaims, WaveClaims, PatternClaims}
-use Rattle.float64.proofs.ExpBound.{E-between}
+use Rattle.float64.specs.Claims.{WholeClaims, PatternClaims}
 use Rattle.float64.proofs.Whole.{whole-exact}
-use Rattle.float64.proofs.WaveBound.{sine-within, cosine-within}
-
-pub exponential-claims : ExponentialClaims
-exponential-claims = record { between = E-between }
 
 whole-is : (s : Bool) (m : ℕ) (e : ℤ) → T (fits binary64 (fin s m e)) → HasValue (wholePart (fin s m e)) s (m * up e / down e) 1
 unfolding wholePart
 whole-is = whole-exact
 
-pub wave-claims : WaveClaims
-wave-claims = record { whole = whole-is; sine = sine-within; cosine = cosine-within }
+pub whole-claims : WholeClaims
+whole-claims = record { whole = whole-is }
 
 bits-are : (x : Float) → bitsOf x ≡ toBits binary64 x
 unfolding bitsOf isNan toBits

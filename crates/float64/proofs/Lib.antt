@@ -5,13 +5,9 @@ pub mod SameValue
 pub mod Choosing
 pub mod Least
 pub mod NanPattern
-pub mod Series
 pub mod Whole
-pub mod Reduced
 pub mod Fields
 pub mod Unit
-pub mod ExpBound
-pub mod WaveBound
 pub mod Claims
 pub mod Tied
 mod Controls

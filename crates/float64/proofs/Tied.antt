@@ -9,13 +9,11 @@ use borrow.Fn.Kinds.{endedOf}
 use denote.Triple.Clauses.{AtExit}
 use lib.Dec.{T}
 use lib.IntN.{ℤ}
-use lib.Ieee.{Float, fin, binary64, up, down, fits, isNan, le}
+use lib.Ieee.{Float, fin, binary64, up, down, fits, isNan}
 use lib.Ieee.Exact.{HasValue}
-use Rattle.float64.specs.Constants.{nought, one}
 use Rattle.float64.specs.Pattern.{bitsOf, doubleOf}
-use Rattle.float64.specs.Wave.{wholePart}
-use Rattle.float64.specs.Claims.{InUnit}
-use Rattle.float64.proofs.Claims.{exponential-claims, wave-claims, pattern-claims}
+use Rattle.float64.specs.Whole.{wholePart}
+use Rattle.float64.proofs.Claims.{whole-claims, pattern-claims}
 use Rattle.float64.proofs.choice.max as max-contract
 use Rattle.float64.proofs.choice.max.Reads as max-reads
 use Rattle.float64.proofs.choice.min as min-contract
@@ -26,24 +24,15 @@ use Rattle.float64.proofs.choice.clamp as clamp-contract
 use Rattle.float64.proofs.choice.clamp.Reads as clamp-reads
 use Rattle.float64.proofs.angle.to_radians as to-radians-contract
 use Rattle.float64.proofs.angle.to_radians.Reads as to-radians-reads
-use Rattle.float64.proofs.exponential.exp as exp-contract
-use Rattle.float64.proofs.exponential.exp.Kinds as exp-kinds
-use Rattle.float64.proofs.exponential.exp.Reads as exp-reads
-use Rattle.float64.proofs.wave.sin as sin-contract
-use Rattle.float64.proofs.wave.sin.Kinds as sin-kinds
-use Rattle.float64.proofs.wave.sin.Reads as sin-reads
-use Rattle.float64.proofs.wave.cos as cos-contract
-use Rattle.float64.proofs.wave.cos.Kinds as cos-kinds
-use Rattle.float64.proofs.wave.cos.Reads as cos-reads
 use Rattle.float64.proofs.pattern.to_bits as to-bits-contract
 use Rattle.float64.proofs.pattern.to_bits.Kinds as to-bits-kinds
 use Rattle.float64.proofs.pattern.to_bits.Reads as to-bits-reads
 use Rattle.float64.proofs.pattern.from_bits as from-bits-contract
 use Rattle.float64.proofs.pattern.from_bits.Kinds as from-bits-kinds
 use Rattle.float64.proofs.pattern.from_bits.Reads as from-bits-reads
-use Rattle.float64.proofs.wave.whole_part as whole-part-contract
-use Rattle.float64.proofs.wave.whole_part.Kinds as whole-part-kinds
-use Rattle.float64.proofs.wave.whole_part.Reads as whole-part-reads
+use Rattle.float64.proofs.trunc.whole_part as whole-part-contract
+use Rattle.float64.proofs.trunc.whole_part.Kinds as whole-part-kinds
+use Rattle.float64.proofs.trunc.whole_part.Reads as whole-part-reads
 
 -- of `max`, `min`, `abs`, `clamp` and `to_radians` there is no claim beside their definitions; they too ask for nothing
 module _ (κs : Lfts 0) where
@@ -62,33 +51,12 @@ module _ (κs : Lfts 0) where
   pub to-radians-any : (a : ArgsD to-radians-contract.signature κs) → to-radians-reads.Asked κs a
   to-radians-any a = tt
 
-module _ (κs : Lfts 0) (a : ArgsD exp-contract.signature κs) (r : ResD exp-contract.signature κs) (e : AtExit (endedOf 0 exp-kinds.ps exp-kinds.r) κs) where
-  pub exp-any : exp-reads.Asked κs a
-  exp-any = tt
-
-  pub exp-between : exp-reads.Learnt κs a r e → T (le (a .0) nought) → T (le nought r) × T (le r one)
-  exp-between h k = subst (λ (y : Float). T (le nought y) × T (le y one)) (sym h) (exponential-claims .between (a .0) k)
-
-module _ (κs : Lfts 0) (a : ArgsD sin-contract.signature κs) (r : ResD sin-contract.signature κs) (e : AtExit (endedOf 0 sin-kinds.ps sin-kinds.r) κs) where
-  pub sin-any : sin-reads.Asked κs a
-  sin-any = tt
-
-  pub sin-unit : sin-reads.Learnt κs a r e → InUnit r
-  sin-unit h = subst InUnit (sym h) (wave-claims .sine (a .0))
-
-module _ (κs : Lfts 0) (a : ArgsD cos-contract.signature κs) (r : ResD cos-contract.signature κs) (e : AtExit (endedOf 0 cos-kinds.ps cos-kinds.r) κs) where
-  pub cos-any : cos-reads.Asked κs a
-  cos-any = tt
-
-  pub cos-unit : cos-reads.Learnt κs a r e → InUnit r
-  cos-unit h = subst InUnit (sym h) (wave-claims .cosine (a .0))
-
 module _ (κs : Lfts 0) (a : ArgsD whole-part-contract.signature κs) (r : ResD whole-part-contract.signature κs) (e : AtExit (endedOf 0 whole-part-kinds.ps whole-part-kinds.r) κs) where
   pub whole-part-any : whole-part-reads.Asked κs a
   whole-part-any = tt
 
   pub whole-part-exact : whole-part-reads.Learnt κs a r e → (s : Bool) (m : ℕ) (d : ℤ) → a .0 ≡ fin s m d → T (fits binary64 (fin s m d)) → HasValue r s (m * up d / down d) 1
-  whole-part-exact h s m d q F = subst (λ (y : Float). HasValue y s (m * up d / down d) 1) (sym (h ∙ ap wholePart q)) (wave-claims .whole s m d F)
+  whole-part-exact h s m d q F = subst (λ (y : Float). HasValue y s (m * up d / down d) 1) (sym (h ∙ ap wholePart q)) (whole-claims .whole s m d F)
 
 module _ (κs : Lfts 0) (a : ArgsD to-bits-contract.signature κs) (r : ResD to-bits-contract.signature κs) (e : AtExit (endedOf 0 to-bits-kinds.ps to-bits-kinds.r) κs)
     (b : ArgsD from-bits-contract.signature κs) (s : ResD from-bits-contract.signature κs) (f : AtExit (endedOf 0 from-bits-kinds.ps from-bits-kinds.r) κs) where

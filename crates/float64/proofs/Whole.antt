@@ -19,7 +19,7 @@ use lib.Ieee.Nearest.{div-same}
 use lib.Ieee.Positive.{positive}
 use lib.Ieee.Scale.{round-same}
 use Rattle.float64.specs.Constants.{nought}
-use Rattle.float64.specs.Wave.{wholePart}
+use Rattle.float64.specs.Whole.{wholePart}
 use Rattle.float64.proofs.Fields.{read, unitsAt, made-fields, units-below}
 use Rattle.float64.proofs.NanPattern.{no-nan-below}
 use Rattle.float64.proofs.SameValue.{fit, exact-fit, round-own, round-neg, same-value}

@@ -5,7 +5,7 @@ use Prim.Native.Nat.{ℕ}
 use lib.Ieee.{Float, ofBits, ofInt, round, neg, add, sub, mul, div, lt, eq, isNan, size}
 use Rattle.float64.specs.Choice.{maxOf, minOf, absOf, clampOf}
 use Rattle.square_root.specs.Root.{rootOf, floorRoot, nearestRoot}
-use Rattle.float64.specs.Wave.{C, series}
+use Rattle.elementary.specs.Wave.{C, series}
 use Rattle.converter.specs.declared.answer.ConverterOperatingPoint.{ConverterOperatingPoint}
 use Rattle.converter.specs.Lcc.{lccPoint}
 use Rattle.converter.specs.Vsc.{vscPoint, modulation, lossFactor}

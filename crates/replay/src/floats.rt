@@ -27,9 +27,9 @@ pub fn answer(lines: &mut [u8; ROOM], answers: &mut [u8; ROOM], c: Cursor) -> Af
 fn result_of(operation: u64, a: f64, b: f64) -> f64 {
     match operation {
         0 => square_root::sqrt(a),
-        1 => float64::exp(a),
-        2 => float64::sin(a),
-        3 => float64::cos(a),
+        1 => elementary::exp(a),
+        2 => elementary::sin(a),
+        3 => elementary::cos(a),
         4 => float64::max(a, b),
         _ => float64::min(a, b),
     }

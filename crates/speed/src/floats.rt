@@ -8,7 +8,7 @@ pub extern "C" fn sum_exp(first: f64, step: f64, count: u64) -> f64 {
     let mut t = first;
     let mut left = count;
     while 0 < left {
-        sum += float64::exp(t);
+        sum += elementary::exp(t);
         t += step;
         left -= 1;
     }
@@ -22,7 +22,7 @@ pub extern "C" fn sum_sin(first: f64, step: f64, count: u64) -> f64 {
     let mut t = first;
     let mut left = count;
     while 0 < left {
-        sum += float64::sin(t);
+        sum += elementary::sin(t);
         t += step;
         left -= 1;
     }
@@ -36,7 +36,7 @@ pub extern "C" fn sum_cos(first: f64, step: f64, count: u64) -> f64 {
     let mut t = first;
     let mut left = count;
     while 0 < left {
-        sum += float64::cos(t);
+        sum += elementary::cos(t);
         t += step;
         left -= 1;
     }

@@ -5,6 +5,5 @@ pub mod NeverNan
 pub mod Fastest
 pub mod Claims
 pub mod Raised
-pub mod Examples
 pub mod Tied
 mod Controls

@@ -14,7 +14,7 @@ use lib.Ieee.Exact.{HasValue}
 use lib.Ieee.Fits.{down-pos}
 use Rattle.lists.proofs.Counting.{lt-or-le, contrary}
 use Rattle.float64.specs.Constants.{one}
-use Rattle.float64.specs.Wave.{wholePart}
+use Rattle.float64.specs.Whole.{wholePart}
 use Rattle.float64.proofs.Tests.{lt-nan}
 use Rattle.float64.proofs.Values.{lt-values}
 use Rattle.timing.specs.Steps.{roundedUp, stepsOfQuotient, mostSteps, countedTo}

@@ -1,4 +1,3 @@
 pub mod Steps
 pub mod Breakers
 pub mod Claims
-pub mod Examples

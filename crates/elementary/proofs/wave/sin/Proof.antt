@@ -1,0 +1,23 @@
+-- `sin` meets its contract. Assumes nothing.
+use mathlib.Core.Path.{_∙_}
+use borrow.Author.Needs.{needs}
+use Rattle.elementary.specs.Wave.{S}
+use Rattle.elementary.proofs.Reduced.{sine-divisor}
+use Rattle.elementary.proofs.wave.sin.Statement.{statement}
+use Rattle.elementary.proofs.wave.sin.Tie as tie
+
+reduced-requires : tie.Need-reduced-requires
+reduced-requires c κs = tt
+
+series-of-requires : tie.Need-series-of-requires
+series-of-requires c κs = search needs
+
+clamp-requires : tie.Need-clamp-requires
+clamp-requires c κs = tt
+
+returns : tie.Need-returns
+unfolding S
+returns c = c .clamp .ensures ∙ rw (c .before .series-of .ensures, sine-divisor, c .before .before .reduced .ensures)
+
+pub sin-spec : {M : Type 1} → statement M
+sin-spec = tie.close (tie.spec reduced-requires series-of-requires clamp-requires returns)

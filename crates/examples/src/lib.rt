@@ -1,0 +1,1 @@
+// Document 01's checked examples, in one table; no code.
