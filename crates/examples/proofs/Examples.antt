@@ -9,7 +9,7 @@ use Rattle.elementary.specs.Wave.{reducedAngle, series, S, C}
 use Rattle.grid.specs.Ranges.{realIn}
 use Rattle.grid.specs.Simulator.{newSimulator, keptTimeStep, keptDuration}
 use Rattle.timing.specs.Steps.{roundedUp, stepsOf}
-use Rattle.timing.specs.Breakers.{clearingTimeOf}
+use Rattle.breaker_times.specs.Breakers.{clearingTimeOf}
 use Rattle.examples.specs.Examples.{Examples}
 
 pub examples : Examples

@@ -9,7 +9,7 @@ use Rattle.elementary.specs.Wave.{S, C}
 use Rattle.grid.specs.Parts.{submodulesOf}
 use Rattle.grid.specs.Simulator.{newSimulator}
 use Rattle.timing.specs.Steps.{stepsOf}
-use Rattle.timing.specs.Breakers.{clearingTimeOf}
+use Rattle.breaker_times.specs.Breakers.{clearingTimeOf}
 use Rattle.grid.specs.declared.parts.DcBreakerType.the-variants.{SolidState, HybridBreaker}
 
 pub record Examples : Type 0 where

@@ -23,7 +23,7 @@ use Rattle.grid.specs.declared.parts.DcBreakerType.the-variants.{Mechanical, So
 use Rattle.grid.specs.declared.parts.DcFaultType.the-variants.{PoleToGround, ConverterInternal}
 use Rattle.grid.specs.declared.parts.DcFaultEvent.{DcFaultEvent}
 use Rattle.grid.specs.declared.simulator.DcSwitchingSimulator.{DcSwitchingSimulator}
-use Rattle.timing.specs.Breakers.{clearingTimeOf, fastestOf}
+use Rattle.breaker_times.specs.Breakers.{clearingTimeOf, fastestOf}
 use Rattle.network.specs.Capacitance.{ownCapacitance, joinedCapacitance}
 use Rattle.network.specs.Network.{drainOf}
 use Rattle.transient.specs.declared.state.DcTransientState.{DcTransientState}

@@ -11,7 +11,7 @@ use Rattle.float64.specs.Choice.{maxOf, minOf, absOf}
 use Rattle.grid.specs.declared.parts.DcFaultEvent.{DcFaultEvent}
 use Rattle.grid.specs.declared.simulator.DcSwitchingSimulator.{DcSwitchingSimulator}
 use Rattle.timing.specs.Steps.{timeStepMs, durationMs}
-use Rattle.timing.specs.Breakers.{fastestOf}
+use Rattle.breaker_times.specs.Breakers.{fastestOf}
 use Rattle.network.specs.Constants.{million}
 use Rattle.network.specs.Network.{drainOf}
 use Rattle.transient.specs.declared.state.DcTransientState.{DcTransientState}

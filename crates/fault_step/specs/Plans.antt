@@ -5,7 +5,7 @@ use Rattle.float64.specs.Arithmetic.{_⊕_, _⊗_, of}
 use Rattle.grid.specs.declared.parts.DcFaultEvent.{DcFaultEvent}
 use Rattle.grid.specs.declared.simulator.DcSwitchingSimulator.{DcSwitchingSimulator}
 use Rattle.timing.specs.Steps.{timeStepMs, durationMs}
-use Rattle.timing.specs.Breakers.{fastestOf}
+use Rattle.breaker_times.specs.Breakers.{fastestOf}
 use Rattle.network.specs.Network.{networkOf, drainOf, stationCount}
 use Rattle.transient.specs.Rk4.{rk4Step}
 use Rattle.run_start.specs.Start.{ratedOf}

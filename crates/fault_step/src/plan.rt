@@ -3,6 +3,7 @@ ghost use mathlib.Core.Path.{_≡_};
 ghost use Rattle.fault_step.specs.Fault.{beforeLoop};
 ghost use Rattle.fault_step.specs.Plans.{constantsOf, planOf};
 use crate::variables::FaultVariables;
+use breaker_times::fastest_breaker_clearing_ms;
 use fault_circuit::FaultCircuit;
 use fault_circuit::fault_circuit;
 use grid::DcFaultEvent;
@@ -15,7 +16,6 @@ use network::network_of;
 use run_start::breakers_all;
 use run_start::rated_voltages;
 use timing::duration_ms;
-use timing::fastest_breaker_clearing_ms;
 use timing::time_step_ms;
 use transient::DcTransientState;
 

@@ -31,7 +31,7 @@ fn append_steps(answers: &mut [u8; ROOM], c: Cursor, g: DcSwitchingSimulator) ->
 fn append_times(answers: &mut [u8; ROOM], c: Cursor, g: DcSwitchingSimulator) -> Cursor {
     let c = numbers::append_double(answers, c, timing::time_step_ms(g));
     let c = numbers::append_double(answers, c, timing::duration_ms(g));
-    numbers::append_double(answers, c, timing::fastest_breaker_clearing_ms(g))
+    numbers::append_double(answers, c, breaker_times::fastest_breaker_clearing_ms(g))
 }
 
 fn append_clearing_times(answers: &mut [u8; ROOM], c: Cursor, g: DcSwitchingSimulator) -> Cursor {
@@ -41,7 +41,11 @@ fn append_clearing_times(answers: &mut [u8; ROOM], c: Cursor, g: DcSwitchingSimu
     while i < n {
         let b = g.breakers[i];
         let breaker_type = b.breaker_type;
-        at = numbers::append_double(answers, at, timing::breaker_clearing_time_ms(breaker_type));
+        at = numbers::append_double(
+            answers,
+            at,
+            breaker_times::breaker_clearing_time_ms(breaker_type),
+        );
         i += 1;
     }
     at

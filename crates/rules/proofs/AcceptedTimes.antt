@@ -19,8 +19,8 @@ use Rattle.grid.specs.declared.parts.DcBreakerType.{DcBreakerType}
 use Rattle.grid.specs.declared.parts.DcBreakerType.the-variants.{Mechanical, SolidState, HybridBreaker}
 use Rattle.grid.specs.declared.parts.DcBreaker.{DcBreaker}
 use Rattle.timing.specs.Steps.{k1000}
-use Rattle.timing.specs.Breakers.{k03, largest, clearingTimeOf}
-use Rattle.timing.specs.Claims.{timed}
+use Rattle.breaker_times.specs.Breakers.{k03, largest, clearingTimeOf}
+use Rattle.breaker_times.specs.Claims.{timed}
 use Rattle.part_checks.specs.PartChecks.{breakerTypeOk, breakerOk}
 
 -- ---- the two operations with a constant that a clearing time takes

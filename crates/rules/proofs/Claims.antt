@@ -16,8 +16,9 @@ use Rattle.grid.specs.Simulator.{breakersOf}
 use Rattle.timing.specs.Steps.{stepsOf, mostSteps}
 use Rattle.rules.specs.Studies.{broken, tooManySteps, switchingOrder, faultOrder, breakerOutside, flowRefusal, detectionRefusal, switchingRefusal, faultRefusal, sweepRefusal, pointRefusal, numberOf}
 use Rattle.rules.specs.Claims.{RefusalClaims, AcceptedClaims, FastestClaims}
-use Rattle.timing.specs.Claims.{Steps, timed}
-use Rattle.timing.proofs.Fastest.{breaker-claims}
+use Rattle.timing.specs.Claims.{Steps}
+use Rattle.breaker_times.specs.Claims.{timed}
+use Rattle.breaker_times.proofs.Fastest.{breaker-claims}
 use Rattle.grid.specs.declared.parts.ConverterStation.{ConverterStation}
 use Rattle.grid.specs.declared.simulator.DcSwitchingSimulator.{DcSwitchingSimulator}
 use Rattle.rules.specs.declared.studies.Verdict.{Verdict}

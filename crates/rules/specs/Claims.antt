@@ -9,8 +9,9 @@ use lib.Ieee.{le}
 use Rattle.lists.specs.Scans.{every}
 use Rattle.grid.specs.Simulator.{breakersOf}
 use Rattle.timing.specs.Steps.{stepsOf}
-use Rattle.timing.specs.Breakers.{timeOf, fastestOf}
-use Rattle.timing.specs.Claims.{Steps, HasTime}
+use Rattle.breaker_times.specs.Breakers.{timeOf, fastestOf}
+use Rattle.timing.specs.Claims.{Steps}
+use Rattle.breaker_times.specs.Claims.{HasTime}
 use Rattle.part_checks.specs.PartChecks.{stationOk, faultOk, orderOk}
 use Rattle.rules.specs.Studies.{broken, breakerOutside, flowOrder, detectionOrder, switchingOrder, faultOrder, flowRefusal, detectionRefusal, switchingRefusal, faultRefusal, sweepRefusal, pointRefusal, numberOf}
 use Rattle.grid.specs.declared.parts.ConverterStation.{ConverterStation}

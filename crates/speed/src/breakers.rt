@@ -1,8 +1,8 @@
 // The fastest breaker in a loop.
 use crate::samples::sample_grid;
+use breaker_times::fastest_breaker_clearing_ms;
 use grid::DcBreaker;
 use grid::DcBreakerType;
-use timing::fastest_breaker_clearing_ms;
 
 // Adds up `count` of the fastest times of a grid of `breakers` breakers, the first of which opens after 0 ms, 0.001 ms, and so on.
 #[no_mangle]

@@ -1,17 +1,14 @@
 -- Worked examples of the definitions: they are believed, so a wrong clause need break no other proof. The answers were written by hand from document 01.
 use mathlib.Core.Path.{_≡_, refl}
 use mathlib.Core.Bool.{true, false}
-use mathlib.Core.List.{[], _∷_, foldl}
 use Prim.Native.Nat.{_-_}
 use lib.ListN.{replicate}
 use lib.Ieee.{Float, nan, binary64, ofBits, ofInt, round, neg, div, lt, le, eq, isNan}
 use Rattle.float64.specs.Constants.{nought, decimal}
-use Rattle.float64.specs.Choice.{maxOf, minOf}
+use Rattle.float64.specs.Choice.{maxOf}
 use Rattle.grid.specs.Ranges.{realIn}
 use Rattle.grid.specs.Simulator.{blankStation, blankCable, blankBreaker, keptTimeStep, keptDuration, newSimulator, withStation, withCable, withBreaker}
 use Rattle.timing.specs.Steps.{timeStepMs, durationMs, roundedUp, stepsOf, intervalOf, recorded, countBelow, recordsOf, recordLength}
-use Rattle.timing.specs.Breakers.{clearingTimeOf, faster}
-use Rattle.grid.specs.declared.parts.DcBreakerType.the-variants.{Mechanical, SolidState}
 use Rattle.grid.specs.declared.simulator.DcSwitchingSimulator.{DcSwitchingSimulator}
 
 -- 01's examples that are run: 10,000 steps; a million steps, and more
@@ -28,11 +25,6 @@ up-are = (refl, refl, refl, refl)
 intervals-are : (intervalOf 1 ≡ 1) × (intervalOf 9999 ≡ 1) × (intervalOf 10000 ≡ 2) × (intervalOf 1000000 ≡ 200) × (recorded 10000 9998 ≡ true) × (recorded 10000 9997 ≡ false) × (recorded 10000 9999 ≡ true) × (recordsOf 12 ≡ 12)
 unfolding countBelow
 intervals-are = (refl, refl, refl, refl, refl, refl, refl, refl)
-
--- breakers of 7 ms and 500 µs: the faster one's time
-fastest-are : foldl faster (decimal 100 1) (record { id = 0; «station_id» = 0; «breaker_type» = Mechanical (decimal 7 1); «max_breaking_current_ka» = nought; «energy_absorption_mj» = nought } ∷ record { id = 0; «station_id» = 0; «breaker_type» = SolidState (decimal 500 1) nought; «max_breaking_current_ka» = nought; «energy_absorption_mj» = nought } ∷ []) ≡ decimal 5 10
-unfolding clearingTimeOf minOf isNan lt ofBits round div
-fastest-are = refl
 
 -- time and fault current; one station's two numbers, a cable, a breaker
 one : DcSwitchingSimulator

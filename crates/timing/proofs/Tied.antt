@@ -4,26 +4,17 @@ use mathlib.Core.Path.{_≡_, sym, _∙_, subst}
 use mathlib.Core.Bool.{true}
 use lib.Ieee.{Float, le}
 use Rattle.float64.specs.Constants.{decimal}
-use Rattle.lists.specs.Scans.{every}
-use Rattle.grid.specs.Simulator.{breakersOf}
-use Rattle.timing.specs.Breakers.{timeOf}
 use contract.Lifetimes.{Lfts}
 use borrow.Fn.World.{ArgsD, ResD}
 use borrow.Fn.Kinds.{endedOf}
 use denote.Triple.Clauses.{AtExit}
 use Rattle.timing.specs.Steps.{stepsOf}
-use Rattle.timing.specs.Claims.{Steps, timed}
+use Rattle.timing.specs.Claims.{Steps}
 use Rattle.timing.proofs.Claims.{step-claims}
-use Rattle.timing.proofs.Fastest.{breaker-claims}
 use Rattle.timing.proofs.Raised.{raised-claims}
-use Rattle.timing.proofs.breakers.fastest_breaker_clearing_ms as fastest-contract
-use Rattle.timing.proofs.breakers.fastest_breaker_clearing_ms.Kinds as fastest-kinds
-use Rattle.timing.proofs.breakers.fastest_breaker_clearing_ms.Reads as fastest-reads
 use Rattle.timing.proofs.steps.total_steps as total-steps-contract
 use Rattle.timing.proofs.steps.total_steps.Kinds as total-steps-kinds
 use Rattle.timing.proofs.steps.total_steps.Reads as total-steps-reads
-use Rattle.timing.proofs.breakers.breaker_clearing_time_ms as breaker-clearing-time-ms-contract
-use Rattle.timing.proofs.breakers.breaker_clearing_time_ms.Reads as breaker-clearing-time-ms-reads
 use Rattle.timing.proofs.steps.record_interval as record-interval-contract
 use Rattle.timing.proofs.steps.record_interval.Reads as record-interval-reads
 use Rattle.timing.proofs.steps.is_recorded as is-recorded-contract
@@ -47,13 +38,6 @@ module _ (κs : Lfts 0) (a : ArgsD total-steps-contract.signature κs) (r : ResD
   pub total-steps-are : total-steps-reads.Learnt κs a r e → Steps (stepsOf (a .0)) → r ≡ stepsOf (a .0)
   total-steps-are h k = h ∙ step-claims .counted (stepsOf (a .0)) k
 
-module _ (κs : Lfts 0) (a : ArgsD fastest-contract.signature κs) (r : ResD fastest-contract.signature κs) (e : AtExit (endedOf 0 fastest-kinds.ps fastest-kinds.r) κs) where
-  pub fastest-any : fastest-reads.Asked κs a
-  fastest-any = tt
-
-  pub fastest-least : fastest-reads.Learnt κs a r e → every timed (breakersOf (a .0)) ≡ true → every (λ b. le r (timeOf b)) (breakersOf (a .0)) ≡ true
-  fastest-least h k = subst (λ (t : Float). every (λ b. le t (timeOf b)) (breakersOf (a .0)) ≡ true) (sym h) (breaker-claims .none-faster (a .0) k)
-
 module _ (κs : Lfts 0) (a : ArgsD time-step-ms-contract.signature κs) (r : ResD time-step-ms-contract.signature κs) (e : AtExit (endedOf 0 time-step-ms-kinds.ps time-step-ms-kinds.r) κs) where
   pub time-step-ms-any : time-step-ms-reads.Asked κs a
   time-step-ms-any = tt
@@ -69,9 +53,6 @@ module _ (κs : Lfts 0) (a : ArgsD duration-ms-contract.signature κs) (r : ResD
   duration-ms-raised h = subst (λ (t : Float). le (decimal 1 1000) t ≡ true) (sym h) (raised-claims .duration (a .0))
 
 module _ (κs : Lfts 0) where
-  pub breaker-clearing-time-ms-any : (a : ArgsD breaker-clearing-time-ms-contract.signature κs) → breaker-clearing-time-ms-reads.Asked κs a
-  breaker-clearing-time-ms-any a = tt
-
   pub record-interval-any : (a : ArgsD record-interval-contract.signature κs) → record-interval-reads.Asked κs a
   record-interval-any a = tt
 

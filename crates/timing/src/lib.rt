@@ -1,9 +1,6 @@
-// The time of a run: how many steps it has and which of them are recorded, and how fast the breakers clear a fault.
-mod breakers;
+// The time of a run: how many steps it has and which of them are recorded.
 mod steps;
 
-pub use breakers::breaker_clearing_time_ms;
-pub use breakers::fastest_breaker_clearing_ms;
 pub use steps::MOST_STEPS;
 pub use steps::duration_ms;
 pub use steps::is_recorded;

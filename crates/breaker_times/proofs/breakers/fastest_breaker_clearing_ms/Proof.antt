@@ -8,10 +8,10 @@ use borrow.Author.Needs.{needs}
 use borrow.Author.Tests.{eq-eqb, ne-eqb}
 use Rattle.lists.proofs.Folds.{fold-more}
 use Rattle.lists.proofs.Scanning.{take-cut, unmapped}
-use Rattle.timing.proofs.NeverNan.{never-nan, by-one-test}
-use Rattle.timing.specs.Breakers.{faster, largest, fastestOf}
-use Rattle.timing.proofs.breakers.fastest_breaker_clearing_ms.Statement.{statement}
-use Rattle.timing.proofs.breakers.fastest_breaker_clearing_ms.Tie as tie
+use Rattle.breaker_times.proofs.NeverNan.{never-nan, by-one-test}
+use Rattle.breaker_times.specs.Breakers.{faster, largest, fastestOf}
+use Rattle.breaker_times.proofs.breakers.fastest_breaker_clearing_ms.Statement.{statement}
+use Rattle.breaker_times.proofs.breakers.fastest_breaker_clearing_ms.Tie as tie
 
 abbrev Inv-loop : tie.InvT-loop
 Inv-loop n breakers fastest₀ i₀ fastest i = (i ≤ n) × (fastest ≡ foldl faster largest (take i breakers))

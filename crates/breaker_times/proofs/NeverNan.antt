@@ -10,7 +10,7 @@ use Rattle.float64.specs.Choice.{minOf}
 use Rattle.float64.proofs.Tests.{ne-self}
 use Rattle.float64.proofs.Choosing.{min-is}
 use Rattle.grid.specs.declared.parts.DcBreaker.{DcBreaker}
-use Rattle.timing.specs.Breakers.{timeOf, faster, largest}
+use Rattle.breaker_times.specs.Breakers.{timeOf, faster, largest}
 
 -- what is below something is a number
 pub number : (t c : Float) → lt t c ≡ true → T (not (isNan t))

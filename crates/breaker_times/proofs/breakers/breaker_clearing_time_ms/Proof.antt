@@ -1,9 +1,9 @@
 -- `breaker_clearing_time_ms` meets its contract. Assumes nothing.
-use Rattle.timing.specs.Breakers.{clearingTimeOf}
+use Rattle.breaker_times.specs.Breakers.{clearingTimeOf}
 use mathlib.Core.Path.{sym, ap}
 use borrow.Author.Needs.{needs}
-use Rattle.timing.proofs.breakers.breaker_clearing_time_ms.Statement.{statement}
-use Rattle.timing.proofs.breakers.breaker_clearing_time_ms.Tie as tie
+use Rattle.breaker_times.proofs.breakers.breaker_clearing_time_ms.Statement.{statement}
+use Rattle.breaker_times.proofs.breakers.breaker_clearing_time_ms.Tie as tie
 
 enum-known-breaker-type : tie.Need-enum-known-breaker-type
 enum-known-breaker-type c = search needs

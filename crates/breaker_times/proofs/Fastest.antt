@@ -19,10 +19,10 @@ use Rattle.float64.proofs.Least.{min-one-of, min-le-first, min-le-second}
 use Rattle.grid.specs.Simulator.{breakersOf}
 use Rattle.grid.specs.declared.parts.DcBreaker.{DcBreaker}
 use Rattle.grid.specs.declared.simulator.DcSwitchingSimulator.{DcSwitchingSimulator}
-use Rattle.timing.proofs.NeverNan.{number, largest-number}
+use Rattle.breaker_times.proofs.NeverNan.{number, largest-number}
 use Rattle.timing.specs.Steps.{durationMs}
-use Rattle.timing.specs.Breakers.{timeOf, faster, largest, fastestOf}
-use Rattle.timing.specs.Claims.{HasTime, timed, BreakerClaims}
+use Rattle.breaker_times.specs.Breakers.{timeOf, faster, largest, fastestOf}
+use Rattle.breaker_times.specs.Claims.{HasTime, timed, BreakerClaims}
 
 min-number : (a b : Float) → T (not (isNan a)) → T (not (isNan b)) → T (not (isNan (minOf a b)))
 min-number a b A B = ⊎-elim (λ e. subst (λ (x : Float). T (not (isNan x))) (sym e) A) (λ e. subst (λ (x : Float). T (not (isNan x))) (sym e) B) (min-one-of a b A B)

@@ -2,11 +2,11 @@
 ghost use mathlib.Core.Path.{_≡_};
 ghost use mathlib.Core.Bool.{cond};
 ghost use lib.Ieee.{lt};
-ghost use Rattle.timing.specs.Breakers.{clearingTimeOf, fastestOf};
-use crate::steps::duration_ms;
+ghost use Rattle.breaker_times.specs.Breakers.{clearingTimeOf, fastestOf};
 use grid::DcBreakerType;
 use grid::DcSwitchingSimulator;
 use grid::present;
+use timing::duration_ms;
 
 // breaker_clearing_time_ms
 pub fn breaker_clearing_time_ms(breaker_type: DcBreakerType) -> f64

@@ -1,6 +1,6 @@
 -- `faster_of` meets its contract. Assumes nothing.
-use Rattle.timing.proofs.breakers.faster_of.Statement.{statement}
-use Rattle.timing.proofs.breakers.faster_of.Tie as tie
+use Rattle.breaker_times.proofs.breakers.faster_of.Statement.{statement}
+use Rattle.breaker_times.proofs.breakers.faster_of.Tie as tie
 
 returns : tie.Need-returns
 returns c = rw (c .if1 .taken)

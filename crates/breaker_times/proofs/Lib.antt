@@ -1,0 +1,4 @@
+pub mod NeverNan
+pub mod Fastest
+pub mod Tied
+mod Controls

@@ -1,0 +1,2 @@
+pub mod Breakers
+pub mod Claims
