@@ -8,7 +8,7 @@ use lib.Ieee.{Float, ofBits, ofInt, round, add, sub, mul, div, neg, lt, le, eq, 
 use Rattle.lists.specs.Tables.{tab, blank, padded, over}
 use Rattle.float64.specs.Constants.{nought, decimal}
 use Rattle.float64.specs.Choice.{maxOf}
-use Rattle.grid.specs.Ranges.{realIn, wholeIn}
+use Rattle.ranges.specs.Ranges.{realIn, wholeIn}
 use Rattle.grid.specs.Simulator.{blankCable, blankBreaker}
 use Rattle.grid.specs.declared.parts.ConverterTopology.the-variants.{Lcc}
 use Rattle.grid.specs.declared.parts.DcFaultType.the-variants.{PoleToGround}

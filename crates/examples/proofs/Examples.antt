@@ -6,7 +6,7 @@ use Rattle.square_root.specs.Root.{floorRoot, nearestRoot, rootOf}
 use Rattle.elementary.specs.Exponential.{terms, squared, E}
 use Rattle.float64.specs.Whole.{wholePart}
 use Rattle.elementary.specs.Wave.{reducedAngle, series, S, C}
-use Rattle.grid.specs.Ranges.{realIn}
+use Rattle.ranges.specs.Ranges.{realIn}
 use Rattle.grid.specs.Simulator.{newSimulator, keptTimeStep, keptDuration}
 use Rattle.timing.specs.Steps.{roundedUp, stepsOf}
 use Rattle.breaker_times.specs.Breakers.{clearingTimeOf}

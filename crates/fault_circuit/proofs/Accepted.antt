@@ -12,13 +12,13 @@ use Rattle.lists.specs.Scans.{every}
 use Rattle.lists.proofs.Scanning.{left, right, passed}
 use Rattle.float64.proofs.Choosing.{max-holds}
 use Rattle.float64.proofs.Range.{UpTo, from-range, rounded, times, over}
-use Rattle.grid.specs.Ranges as range
-use Rattle.grid.specs.Ranges.{realIn}
+use Rattle.ranges.specs.Ranges as range
+use Rattle.ranges.specs.Ranges.{realIn}
 use Rattle.grid.specs.Simulator.{leastTimeStep, stationsOf, cablesOf}
 use Rattle.grid.specs.declared.parts.DcFaultEvent.{DcFaultEvent}
 use Rattle.grid.specs.declared.parts.SweepOrder.{SweepOrder}
 use Rattle.grid.specs.declared.simulator.DcSwitchingSimulator.{DcSwitchingSimulator}
-use Rattle.grid.proofs.InRange.{in-range, range-in}
+use Rattle.ranges.proofs.InRange.{in-range, range-in}
 use Rattle.timing.specs.Steps.{timeOfStep, k1000, timeStepMs, stepsOf}
 use Rattle.timing.specs.Claims.{Steps}
 use Rattle.part_checks.specs.PartChecks.{stationOk, cableOk, faultOk, orderOk}

@@ -18,7 +18,7 @@ use Rattle.elementary.proofs.ExpBound.{E-between}
 use Rattle.float64.proofs.Range.{UpTo, wider}
 use Rattle.grid.specs.declared.parts.DcFaultEvent.{DcFaultEvent}
 use Rattle.grid.specs.declared.simulator.DcSwitchingSimulator.{DcSwitchingSimulator}
-use Rattle.grid.proofs.InRange.{in-range}
+use Rattle.ranges.proofs.InRange.{in-range}
 use Rattle.timing.specs.Steps.{timeOfStep, stepsOf}
 use Rattle.rules.specs.Studies.{faultRefusal}
 use Rattle.fault_circuit.specs.declared.parameters.RlcParameters.{RlcParameters}

@@ -15,14 +15,14 @@ use Rattle.float64.specs.Arithmetic.{_⊕_}
 use Rattle.float64.proofs.Choosing.{clamp-holds}
 use Rattle.float64.proofs.Range.{UpTo, wider, from-range, to-range, times, plus, sum-up-to}
 use Rattle.float64.proofs.Interval.{In, max-in, le-plus}
-use Rattle.grid.specs.Ranges as range
-use Rattle.grid.specs.Ranges.{realIn}
+use Rattle.ranges.specs.Ranges as range
+use Rattle.ranges.specs.Ranges.{realIn}
 use Rattle.grid.specs.Simulator.{blankStation, blankCable, stationsOf}
 use Rattle.grid.specs.declared.parts.ConverterStation.{ConverterStation}
 use Rattle.grid.specs.declared.parts.DcCable.{DcCable}
 use Rattle.grid.specs.declared.parts.DcFaultEvent.{DcFaultEvent}
 use Rattle.grid.specs.declared.simulator.DcSwitchingSimulator.{DcSwitchingSimulator}
-use Rattle.grid.proofs.InRange.{in-range}
+use Rattle.ranges.proofs.InRange.{in-range}
 use Rattle.part_checks.specs.PartChecks.{stationOk, cableOk}
 use Rattle.fault_circuit.specs.declared.parameters.RlcParameters.{RlcParameters}
 use Rattle.fault_circuit.specs.Constants.{smoothing, leastCapacitance, leastCableResistance}

@@ -7,8 +7,8 @@ use lib.Ieee.{Float, le}
 use Rattle.lists.specs.Scans.{every}
 use Rattle.float64.specs.Constants.{nought, one}
 use Rattle.elementary.specs.Exponential.{E}
-use Rattle.grid.specs.Ranges as range
-use Rattle.grid.specs.Ranges.{ends, realIn}
+use Rattle.ranges.specs.Ranges as range
+use Rattle.ranges.specs.Ranges.{ends, realIn}
 use Rattle.grid.specs.Simulator.{stationsOf, cablesOf}
 use Rattle.grid.specs.declared.parts.DcFaultEvent.{DcFaultEvent}
 use Rattle.grid.specs.declared.parts.SweepOrder.{SweepOrder}

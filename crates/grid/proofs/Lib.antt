@@ -1,5 +1,2 @@
-pub mod WholeNumbers
-pub mod Claims
 pub mod Tied
 mod Controls
-pub mod InRange

@@ -1,5 +1,3 @@
-pub mod Ranges
 pub mod Parts
 pub mod Simulator
 pub mod Cables
-pub mod Claims

@@ -15,8 +15,8 @@ use Rattle.grid.specs.declared.parts.DcCable.{DcCable}
 use Rattle.grid.specs.declared.parts.DcBreaker.{DcBreaker}
 use Rattle.grid.specs.declared.simulator.DcSwitchingSimulator.{DcSwitchingSimulator}
 use Rattle.grid.specs.declared.simulator.Added.{Added}
-use Rattle.grid.specs.Ranges as range
-use Rattle.grid.specs.Ranges.{realIn}
+use Rattle.ranges.specs.Ranges as range
+use Rattle.ranges.specs.Ranges.{realIn}
 
 -- the parts that the counts speak of: what stands past a count is none of the grid's, and a count past an array takes all of it
 abbrev pub stationsOf : DcSwitchingSimulator → List ConverterStation

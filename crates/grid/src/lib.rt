@@ -1,7 +1,6 @@
-// A grid, an event and an order by value, with the names of document 000, and the table of accepted values.
+// A grid, an event and an order by value, with the names of document 000.
 mod cables;
 mod parts;
-pub mod ranges;
 mod simulator;
 
 pub use cables::cable_resistance;

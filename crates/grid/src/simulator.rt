@@ -7,8 +7,7 @@ use crate::parts::ConverterTopology;
 use crate::parts::DcBreaker;
 use crate::parts::DcBreakerType;
 use crate::parts::DcCable;
-use crate::ranges;
-use crate::ranges::in_range;
+use ranges::in_range;
 
 // What a time step and a duration are raised to.
 pub const LEAST_TIME_STEP_US: f64 = 0.1;

@@ -7,7 +7,7 @@ use Prim.Native.Nat.{ℕ}
 use lib.ListN.{replicate}
 use lib.Ieee.{ofBits, ofInt, round, lt, le, eq}
 use Rattle.float64.specs.Constants.{decimal}
-use Rattle.grid.specs.Ranges.{realIn, wholeIn}
+use Rattle.ranges.specs.Ranges.{realIn, wholeIn}
 use Rattle.grid.specs.Simulator.{blankStation}
 use Rattle.part_checks.specs.PartChecks.{topologyOk, stationOk, cableOk, breakerTypeOk, breakerOk, faultOk, orderOk}
 use Rattle.grid.specs.declared.parts.ConverterTopology.the-variants.{Lcc, TwoLevelVsc, Mmc, Hybrid}

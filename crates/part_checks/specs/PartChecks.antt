@@ -1,8 +1,8 @@
 -- When the fields of a station, a cable, a breaker, a fault and a sweep order lie in their ranges. Definitions only.
 use mathlib.Core.Bool.{Bool, true, _&&_}
 use lib.Dec.{leb}
-use Rattle.grid.specs.Ranges as range
-use Rattle.grid.specs.Ranges.{realIn, wholeIn}
+use Rattle.ranges.specs.Ranges as range
+use Rattle.ranges.specs.Ranges.{realIn, wholeIn}
 use Rattle.grid.specs.declared.parts.ConverterTopology.{ConverterTopology}
 use Rattle.grid.specs.declared.parts.ConverterTopology.the-variants.{Lcc, TwoLevelVsc, Mmc, Hybrid}
 use Rattle.grid.specs.declared.parts.DcBreakerType.{DcBreakerType}

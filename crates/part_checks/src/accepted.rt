@@ -8,9 +8,8 @@ use grid::DcBreakerType;
 use grid::DcCable;
 use grid::DcFaultEvent;
 use grid::SweepOrder;
-use grid::ranges;
-use grid::ranges::in_range;
-use grid::ranges::whole_in_range;
+use ranges::in_range;
+use ranges::whole_in_range;
 
 fn check_topology(topology: ConverterTopology) -> bool
     ensures { λ r. ⌜ r ≡ topologyOk topology ⌝ }

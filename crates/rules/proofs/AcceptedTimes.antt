@@ -12,9 +12,9 @@ use lib.Ieee.{Float, fin, binary64, up, down, ofBits, ofInt, round, add, mul, di
 use lib.Ieee.Fits.{down-pos}
 use Rattle.lists.proofs.Scanning.{left, right}
 use Rattle.float64.proofs.Range.{UpTo, from-range, times, plus, over}
-use Rattle.grid.proofs.InRange.{in-range}
-use Rattle.grid.specs.Ranges as range
-use Rattle.grid.specs.Ranges.{realIn}
+use Rattle.ranges.proofs.InRange.{in-range}
+use Rattle.ranges.specs.Ranges as range
+use Rattle.ranges.specs.Ranges.{realIn}
 use Rattle.grid.specs.declared.parts.DcBreakerType.{DcBreakerType}
 use Rattle.grid.specs.declared.parts.DcBreakerType.the-variants.{Mechanical, SolidState, HybridBreaker}
 use Rattle.grid.specs.declared.parts.DcBreaker.{DcBreaker}

@@ -7,7 +7,7 @@ use lib.Dec.{eqb}
 use lib.Ieee.{ofBits, ofInt, round, div, lt, le, eq, isNan}
 use Rattle.float64.specs.Constants.{nought, decimal}
 use Rattle.float64.specs.Choice.{maxOf}
-use Rattle.grid.specs.Ranges.{realIn, wholeIn}
+use Rattle.ranges.specs.Ranges.{realIn, wholeIn}
 use Rattle.part_checks.specs.PartChecks.{topologyOk, stationOk, cableOk, breakerTypeOk, breakerOk, faultOk, orderOk}
 use Rattle.grid.specs.Simulator.{blankStation, blankCable, blankBreaker, newSimulator, withStation, withCable, withBreaker, keptTimeStep, keptDuration}
 use Rattle.timing.specs.Steps.{roundedUp, stepsOf}

@@ -5,8 +5,8 @@ use mathlib.Core.List.{List, [], _∷_}
 use lib.Dec.{eqb, ltb}
 use lib.ListN.{getD}
 use Rattle.lists.specs.Scans.{every}
-use Rattle.grid.specs.Ranges as range
-use Rattle.grid.specs.Ranges.{realIn}
+use Rattle.ranges.specs.Ranges as range
+use Rattle.ranges.specs.Ranges.{realIn}
 use Rattle.part_checks.specs.PartChecks.{stationOk, cableOk, breakerOk, faultOk, orderOk}
 use Rattle.grid.specs.Simulator.{stationsOf, cablesOf, breakersOf}
 use Rattle.timing.specs.Steps.{stepsOf, mostSteps}

@@ -8,8 +8,7 @@ use grid::DcFaultEvent;
 use grid::DcSwitchingSimulator;
 use grid::SweepOrder;
 use grid::present;
-use grid::ranges;
-use grid::ranges::in_range;
+use ranges::in_range;
 use timing::MOST_STEPS;
 use timing::total_steps;
 

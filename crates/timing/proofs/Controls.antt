@@ -6,7 +6,7 @@ use lib.ListN.{replicate}
 use lib.Ieee.{Float, nan, binary64, ofBits, ofInt, round, neg, div, lt, le, eq, isNan}
 use Rattle.float64.specs.Constants.{nought, decimal}
 use Rattle.float64.specs.Choice.{maxOf}
-use Rattle.grid.specs.Ranges.{realIn}
+use Rattle.ranges.specs.Ranges.{realIn}
 use Rattle.grid.specs.Simulator.{blankStation, blankCable, blankBreaker, keptTimeStep, keptDuration, newSimulator, withStation, withCable, withBreaker}
 use Rattle.timing.specs.Steps.{timeStepMs, durationMs, roundedUp, stepsOf, intervalOf, recorded, countBelow, recordsOf, recordLength}
 use Rattle.grid.specs.declared.simulator.DcSwitchingSimulator.{DcSwitchingSimulator}

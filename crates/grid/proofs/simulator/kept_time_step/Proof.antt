@@ -2,7 +2,7 @@
 use mathlib.Core.Path.{sym, _∙_}
 use borrow.Author.Needs.{needs}
 use lib.Ieee.{ofBits, ofInt, round}
-use Rattle.grid.specs.Ranges.{realIn}
+use Rattle.ranges.specs.Ranges.{realIn}
 use Rattle.grid.specs.Simulator.{keptTimeStep}
 use Rattle.grid.proofs.simulator.kept_time_step.Statement.{statement}
 use Rattle.grid.proofs.simulator.kept_time_step.Tie as tie

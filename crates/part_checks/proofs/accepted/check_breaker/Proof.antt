@@ -3,9 +3,9 @@ use Rattle.part_checks.specs.PartChecks.{breakerOk}
 use mathlib.Core.Path.{refl, _∙_}
 use borrow.Author.Needs.{needs}
 use lib.Ieee.{ofBits, ofInt, round}
-use Rattle.grid.specs.Ranges as range
-use Rattle.grid.proofs.WholeNumbers.{whole-is}
-use Rattle.grid.specs.Ranges.{realIn}
+use Rattle.ranges.specs.Ranges as range
+use Rattle.ranges.proofs.WholeNumbers.{whole-is}
+use Rattle.ranges.specs.Ranges.{realIn}
 use Rattle.part_checks.proofs.accepted.check_breaker.Statement.{statement}
 use Rattle.part_checks.proofs.accepted.check_breaker.Tie as tie
 

@@ -3,7 +3,7 @@ use Rattle.part_checks.specs.PartChecks.{breakerTypeOk}
 use mathlib.Core.Path.{sym, ap, _∙_}
 use borrow.Author.Needs.{needs}
 use lib.Ieee.{ofBits, ofInt, round}
-use Rattle.grid.specs.Ranges.{realIn}
+use Rattle.ranges.specs.Ranges.{realIn}
 use Rattle.part_checks.proofs.accepted.check_breaker_type.Statement.{statement}
 use Rattle.part_checks.proofs.accepted.check_breaker_type.Tie as tie
 

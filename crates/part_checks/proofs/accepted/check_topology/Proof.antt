@@ -3,8 +3,8 @@ use Rattle.part_checks.specs.PartChecks.{topologyOk}
 use mathlib.Core.Path.{refl, sym, ap, _∙_}
 use borrow.Author.Needs.{needs}
 use lib.Ieee.{ofBits, ofInt, round}
-use Rattle.grid.specs.Ranges as range
-use Rattle.grid.proofs.WholeNumbers.{whole-is}
+use Rattle.ranges.specs.Ranges as range
+use Rattle.ranges.proofs.WholeNumbers.{whole-is}
 use Rattle.part_checks.proofs.accepted.check_topology.Statement.{statement}
 use Rattle.part_checks.proofs.accepted.check_topology.Tie as tie
 

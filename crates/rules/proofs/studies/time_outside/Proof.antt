@@ -2,7 +2,7 @@
 use Rattle.rules.specs.Studies.{timeOutside}
 use borrow.Author.Needs.{needs}
 use lib.Ieee.{ofBits, ofInt, round}
-use Rattle.grid.specs.Ranges.{realIn}
+use Rattle.ranges.specs.Ranges.{realIn}
 use Rattle.rules.proofs.studies.time_outside.Statement.{statement}
 use Rattle.rules.proofs.studies.time_outside.Tie as tie
 

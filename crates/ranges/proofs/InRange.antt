@@ -8,7 +8,7 @@ use lib.Ieee.{Float, binary64, ofInt, le}
 use lib.Ieee.Bits.{is-true}
 use Rattle.lists.proofs.Scanning.{both, left, right}
 use Rattle.float64.proofs.Range.{UpTo, from-range, to-range}
-use Rattle.grid.specs.Ranges.{ends, realIn}
+use Rattle.ranges.specs.Ranges.{ends, realIn}
 
 module _ (k : ℕ) (K : k ≤ 2 ^ 53) (x : Float) where
   pub in-range : realIn (ends 0 k) x ≡ true → UpTo k x

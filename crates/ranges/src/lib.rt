@@ -1,6 +1,6 @@
 // The accepted values: one table of lows and highs, ends included, and the one check that reads it.
 ghost use mathlib.Core.Path.{_≡_};
-ghost use Rattle.grid.specs.Ranges.{between, wholeBetween};
+ghost use Rattle.ranges.specs.Ranges.{between, wholeBetween};
 
 // The low end and the high end.
 pub struct Range(f64, f64);

@@ -5,9 +5,9 @@ use mathlib.Core.Path.{_∙_, sym}
 use lib.Dec.{le→leb}
 use lib.Ieee.{inFloat}
 use native.Mathlib.Nat.{le-of-lt}
-use Rattle.grid.specs.Ranges.{wholeBetween}
-use Rattle.grid.proofs.ranges.whole_in_range.Statement.{statement}
-use Rattle.grid.proofs.ranges.whole_in_range.Tie as tie
+use Rattle.ranges.specs.Ranges.{wholeBetween}
+use Rattle.ranges.proofs.whole_in_range.Statement.{statement}
+use Rattle.ranges.proofs.whole_in_range.Tie as tie
 
 returns : tie.Need-returns
 unfolding wholeBetween

@@ -4,7 +4,7 @@ use mathlib.Core.Bool.{true, false}
 use Prim.Native.Nat.{ℕ, _-_, _^_, _≤_, _<_}
 use lib.IntN.{pos}
 use lib.Ieee.{nan, binary64, ofInt}
-use Rattle.grid.specs.Ranges.{Ends, rowOf, realIn, wholeIn}
+use Rattle.ranges.specs.Ranges.{Ends, rowOf, realIn, wholeIn}
 
 pub record RangeClaims : Type 0 where
   -- NaN is outside every range

@@ -13,7 +13,7 @@ use lib.Ieee.Back.{round-whole}
 use Rattle.lists.proofs.Counting.{lt-or-le}
 use Rattle.lists.proofs.Scanning.{passed, left, right, and-second}
 use Rattle.float64.proofs.Values.{le-values}
-use Rattle.grid.specs.Ranges.{Ends, ends, table, rowOf, asDoubles, wholeBetween, realIn, wholeIn}
+use Rattle.ranges.specs.Ranges.{Ends, ends, table, rowOf, asDoubles, wholeBetween, realIn, wholeIn}
 
 -- up to 2 ^ 53 a whole number is a double, so that nothing is rounded
 whole-le : (a b : ℕ) → a ≤ 2 ^ 53 → b ≤ 2 ^ 53 → le (ofInt binary64 (pos a)) (ofInt binary64 (pos b)) ≡ leb a b

@@ -9,10 +9,10 @@ use lib.Dec.{leb}
 use lib.ListN.{length, getD}
 use lib.Ieee.{nan, le, lt, eq}
 use Rattle.lists.proofs.Scanning.{and-second, passed}
-use Rattle.grid.specs.Ranges.{Ends, ends, table, rowOf, asDoubles, between, realIn, wholeIn}
-use Rattle.grid.specs.declared.ranges.Range.{Range}
-use Rattle.grid.specs.Claims.{RangeClaims}
-use Rattle.grid.proofs.WholeNumbers.{whole-real, whole-past, low-small, high-small, all-small}
+use Rattle.ranges.specs.Ranges.{Ends, ends, table, rowOf, asDoubles, between, realIn, wholeIn}
+use Rattle.ranges.specs.declared.Range.{Range}
+use Rattle.ranges.specs.Claims.{RangeClaims}
+use Rattle.ranges.proofs.WholeNumbers.{whole-real, whole-past, low-small, high-small, all-small}
 
 pub nan-between : (r : Range) → between r nan ≡ false
 unfolding le lt eq

@@ -6,7 +6,7 @@ use lib.Dec.{leb, ltb}
 use lib.IntN.{pos}
 use lib.ListN.{getD}
 use lib.Ieee.{Float, binary64, ofInt, le}
-use Rattle.grid.specs.declared.ranges.Range.{Range}
+use Rattle.ranges.specs.declared.Range.{Range}
 
 -- both ends are accepted
 pub record Ends : Type 0 where

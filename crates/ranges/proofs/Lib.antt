@@ -1,0 +1,5 @@
+pub mod WholeNumbers
+pub mod Claims
+pub mod Tied
+mod Controls
+pub mod InRange
