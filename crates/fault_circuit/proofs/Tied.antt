@@ -1,22 +1,17 @@
 -- The claims speak of what the code returns: what a caller learns from a contract in src/, as Rattle reads its clauses, gives the claim of the result, and nothing is asked of the caller.
 -- Assumes nothing.
-use Prim.Native.Nat.{ℕ, _<_}
 use mathlib.Core.Path.{_≡_, sym, ap, _∙_}
-use mathlib.Core.Bool.{true}
 use lib.Ieee.{Float}
 use contract.Lifetimes.{Lfts}
 use borrow.Fn.World.{ArgsD, ResD}
 use borrow.Fn.Kinds.{endedOf}
 use denote.Triple.Clauses.{AtExit}
-use Rattle.lists.specs.Scans.{every}
-use Rattle.timing.specs.Steps.{timeOfStep, stepsOf}
-use Rattle.rules.specs.Studies.{faultRefusal}
 use Rattle.fault_circuit.specs.declared.parameters.RlcParameters.{RlcParameters}
 use Rattle.fault_circuit.specs.declared.circuit.FaultCircuit.{FaultCircuit}
 use Rattle.fault_circuit.specs.Parameters.{parametersOf}
 use Rattle.fault_circuit.specs.Current.{currentBy, currentOf, decayedBy, exponents, rlcCurrent}
-use Rattle.fault_circuit.specs.Claims.{OneOn, isTime, neverPositive, inUnit}
-use Rattle.fault_circuit.proofs.Claims.{current-claims, exponent-claims}
+use Rattle.fault_circuit.specs.Claims.{OneOn}
+use Rattle.fault_circuit.proofs.Claims.{current-claims}
 use Rattle.fault_circuit.proofs.parameters.fault_rlc_params as parameters-contract
 use Rattle.fault_circuit.proofs.parameters.fault_rlc_params.Kinds as parameters-kinds
 use Rattle.fault_circuit.proofs.parameters.fault_rlc_params.Reads as parameters-reads
@@ -34,13 +29,6 @@ use Rattle.fault_circuit.proofs.current.decayed_current_ka.Reads as dec
 module _ (κs : Lfts 0) (a : ArgsD circuit-contract.signature κs) (r : ResD circuit-contract.signature κs) (e : AtExit (endedOf 0 circuit-kinds.ps circuit-kinds.r) κs) where
   pub circuit-any : circuit-reads.Asked κs a
   circuit-any = tt
-
-  module _ (h : circuit-reads.Learnt κs a r e) (k : faultRefusal (a .0) (a .1 .0) ≡ 0) where
-    pub circuit-never-positive : (clearing t : Float) → isTime t ≡ true → every neverPositive (exponents r clearing t) ≡ true
-    circuit-never-positive clearing t H = rw h (exponent-claims .never-positive (a .0) (a .1 .0) k clearing t H)
-
-    pub circuit-at-steps : (clearing : Float) (i : ℕ) → i < stepsOf (a .0) → every inUnit (exponents r clearing (timeOfStep (a .0) i)) ≡ true
-    circuit-at-steps clearing i I = rw h (exponent-claims .unit-at-steps (a .0) (a .1 .0) k clearing i I)
 
   -- the current that `fault_current_ka` finds with that circuit is 000's with the parameters that `fault_rlc_params` returns
   module _ (p : ArgsD parameters-contract.signature κs) (q : ResD parameters-contract.signature κs) (d : AtExit (endedOf 0 parameters-kinds.ps parameters-kinds.r) κs)
@@ -60,11 +48,11 @@ module _ (κs : Lfts 0) (a : ArgsD current-contract.signature κs) (r : ResD cur
   current-any = tt
 
   pub current-only-these : current-reads.Learnt κs a r e → (exp : Float → Float) (clearing : Float) → OneOn exp (exponents (a .0) clearing (a .1 .0)) → r ≡ currentBy exp (a .0) (a .1 .0)
-  current-only-these h exp clearing o = h ∙ sym (exponent-claims .only-these exp (a .0) clearing clearing (a .1 .0) o .0)
+  current-only-these h exp clearing o = h ∙ sym (current-claims .only-these exp (a .0) clearing clearing (a .1 .0) o .0)
 
 module _ (κs : Lfts 0) (a : ArgsD decayed-contract.signature κs) (r : ResD decayed-contract.signature κs) (e : AtExit (endedOf 0 decayed-kinds.ps decayed-kinds.r) κs) where
   pub decayed-any : decayed-reads.Asked κs a
   decayed-any = tt
 
   pub decayed-only-these : decayed-reads.Learnt κs a r e → (exp : Float → Float) → OneOn exp (exponents (a .0) (a .1 .1 .0) (a .1 .1 .1 .0)) → r ≡ decayedBy exp (a .0) (a .1 .0) (a .1 .1 .0) (a .1 .1 .1 .0)
-  decayed-only-these h exp o = h ∙ sym (exponent-claims .only-these exp (a .0) (a .1 .0) (a .1 .1 .0) (a .1 .1 .1 .0) o .1)
+  decayed-only-these h exp o = h ∙ sym (current-claims .only-these exp (a .0) (a .1 .0) (a .1 .1 .0) (a .1 .1 .1 .0) o .1)

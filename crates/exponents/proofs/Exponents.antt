@@ -18,13 +18,13 @@ use Rattle.float64.proofs.Fields.{no-nan}
 use Rattle.float64.proofs.Order.{le-of-not-lt}
 use Rattle.float64.proofs.Range.{UpTo, from-range, neg-neg, times, minus-raised, never-times}
 use Rattle.float64.proofs.Interval.{max-at-least}
 use Rattle.fault_circuit.specs.declared.parameters.RlcParameters.{RlcParameters}
 use Rattle.fault_circuit.specs.Circuit.{alpha, omega0Sq, underdamped, omegaD, s1, s2, underdampedResponse, overdampedResponse, responseOf, decayTau}
 use Rattle.fault_circuit.specs.Current.{secondsSince, damping, along, duringFault}
-use Rattle.fault_circuit.specs.Claims.{neverPositive}
-use Rattle.fault_circuit.proofs.Ranges.{Ranged}
-use Rattle.fault_circuit.proofs.Roots.{alpha-in, omega0-positive, tau-positive, a-up-to, square-positive, s1-below, s2-below}
-use Rattle.fault_circuit.proofs.Signs.{times-above, minus-over-above}
+use Rattle.exponents.specs.Claims.{neverPositive}
+use Rattle.exponents.proofs.Ranges.{Ranged}
+use Rattle.exponents.proofs.Roots.{alpha-in, omega0-positive, tau-positive, a-up-to, square-positive, s1-below, s2-below}
+use Rattle.exponents.proofs.Signs.{times-above, minus-over-above}
 
 pub seconds : (moment t : Float) → UpTo 1000000000 moment → UpTo 1000000000 t → UpTo 1000000000 (secondsSince moment t)
 unfolding ofBits ofInt round le lt eq

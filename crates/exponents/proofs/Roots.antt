@@ -23,10 +23,10 @@ use Rattle.float64.proofs.Range.{UpTo, from-range, above-zero, zero-same, less,
 use Rattle.float64.proofs.Interval.{In, in-positive, in-wide, in-self, mul-in, div-in, sub-is, sub-le-first}
 use Rattle.square_root.proofs.RootOfSquare.{root-le}
 use Rattle.square_root.proofs.RootPlace.{rooted}
 use Rattle.fault_circuit.specs.declared.parameters.RlcParameters.{RlcParameters}
 use Rattle.fault_circuit.specs.Constants.{leastCapacitance, leastCableResistance}
 use Rattle.fault_circuit.specs.Circuit.{henries, inductance, capacitance, alpha, omega0Sq, disc, s1, s2, decayTau}
-use Rattle.fault_circuit.proofs.Ranges.{whole, Ranged}
+use Rattle.exponents.proofs.Ranges.{whole, Ranged}
 
 -- 2 ^ -22
 abbrev pub least : Float

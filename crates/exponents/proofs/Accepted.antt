@@ -26,7 +26,7 @@ use Rattle.rules.specs.Studies.{broken, timeOutside, stationOutside, cableOutsi
 use Rattle.rules.specs.Claims.{Sizes}
 use Rattle.rules.proofs.Claims.{refusal-claims, accepted-claims}
 use Rattle.rules.proofs.Sizes.{size-claims}
-use Rattle.fault_circuit.specs.Claims.{isTime, InRanges}
+use Rattle.exponents.specs.Claims.{isTime, InRanges}
 
 -- g is accepted where no rule of the order is broken; e says whether the event is outside its ranges
 module _ (g : DcSwitchingSimulator) (e : Bool) (h : every (λ j. not (broken g e j)) faultOrder ≡ true) where

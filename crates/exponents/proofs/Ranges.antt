@@ -24,10 +24,10 @@ use Rattle.grid.specs.declared.parts.DcFaultEvent.{DcFaultEvent}
 use Rattle.grid.specs.declared.simulator.DcSwitchingSimulator.{DcSwitchingSimulator}
 use Rattle.ranges.proofs.InRange.{in-range}
 use Rattle.part_checks.specs.PartChecks.{stationOk, cableOk}
 use Rattle.fault_circuit.specs.declared.parameters.RlcParameters.{RlcParameters}
 use Rattle.fault_circuit.specs.Constants.{smoothing, leastCapacitance, leastCableResistance}
 use Rattle.fault_circuit.specs.Parameters.{faultedCable, feedingStation, fraction, distance, cableResistance, cableInductance, cableCapacitance, stationsCapacitance, parametersAt, parametersOf}
-use Rattle.fault_circuit.specs.Claims.{InRanges}
+use Rattle.exponents.specs.Claims.{InRanges}
 
 abbrev pub whole : ℕ → Float
 whole k = ofInt binary64 (pos k)

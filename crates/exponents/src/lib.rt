@@ -1,0 +1,1 @@
+// For accepted input E's argument is never positive. There is no code in this crate.
