@@ -7,8 +7,7 @@ use Rattle.float64.specs.Choice.{maxOf, minOf, absOf, clampOf}
 use Rattle.float64.specs.Angle.{radiansOf}
 use Rattle.elementary.specs.Wave.{C}
 use Rattle.grid.specs.declared.parts.ConverterStation.{ConverterStation}
-use Rattle.converter.specs.declared.answer.ConverterOperatingPoint.{ConverterOperatingPoint}
-use Rattle.converter.specs.Answer.{accepted}
+use Rattle.converter.specs.declared.point.ConverterOperatingPoint.{ConverterOperatingPoint}
 use Rattle.converter.specs.Constants.{three, four, least, lccStanding, lccResistance}
 
 -- cos α, of the control angle
@@ -72,6 +71,3 @@ lccPoint s i =
       «power_factor» = lccPowerFactor s i;
       «losses_mw» = lccLosses s i;
     }
-
-abbrev pub lccAnswer : ConverterStation → Float → ConverterOperatingPoint
-lccAnswer s i = accepted s (lccPoint s i)

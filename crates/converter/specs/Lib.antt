@@ -1,5 +1,5 @@
 pub mod Constants
-pub mod Answer
+pub mod Point
 pub mod Lcc
 pub mod Vsc
 pub mod Claims

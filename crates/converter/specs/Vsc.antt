@@ -10,8 +10,7 @@ use Rattle.grid.specs.Parts.{submodulesOf}
 use Rattle.grid.specs.declared.parts.ConverterTopology.{ConverterTopology}
 use Rattle.grid.specs.declared.parts.ConverterTopology.the-variants.{Lcc, TwoLevelVsc, Mmc, Hybrid}
 use Rattle.grid.specs.declared.parts.ConverterStation.{ConverterStation}
-use Rattle.converter.specs.declared.answer.ConverterOperatingPoint.{ConverterOperatingPoint}
-use Rattle.converter.specs.Answer.{accepted}
+use Rattle.converter.specs.declared.point.ConverterOperatingPoint.{ConverterOperatingPoint}
 use Rattle.converter.specs.Constants.{threeHalves, least, leastSquare, vscStanding, vscLinear, vscSquare, mostModulation, idleModulation, hybridPart, lccPart}
 
 -- VSC: voltage at least 1e-6
@@ -71,6 +70,3 @@ vscPoint s p v =
       «power_factor» = one;
       «losses_mw» = vscLosses s (vscCurrent p v);
     }
-
-abbrev pub vscAnswer : ConverterStation → Float → Float → ConverterOperatingPoint
-vscAnswer s p v = accepted s (vscPoint s p v)

@@ -1,11 +1,8 @@
 // The line-commutated converter: V = Vd0 cos(alpha) - (3/PI) Xc I.
 ghost use mathlib.Core.Path.{_≡_};
-ghost use Rattle.rules.specs.Studies.{numberOf, pointRefusal};
-ghost use Rattle.converter.specs.Lcc.{cosAlpha, baseImpedance, lccVoltage, lccPowerFactor, lccLosses, lccPoint, lccAnswer};
-use crate::answer::ConverterOperatingPoint;
-use crate::answer::PointAnswer;
-use crate::answer::answered;
+ghost use Rattle.converter.specs.Lcc.{cosAlpha, baseImpedance, lccVoltage, lccPowerFactor, lccLosses, lccPoint};
 use crate::floor::LEAST;
+use crate::point::ConverterOperatingPoint;
 use elementary::cos;
 use float64::PI;
 use float64::abs;
@@ -15,13 +12,6 @@ use float64::min;
 use float64::to_radians;
 use grid::ConverterStation;
 use square_root::SQRT_2;
-
-// DcSwitchingSimulator::lcc_operating_point
-pub fn lcc_operating_point(station: ConverterStation, i_dc_ka: f64) -> PointAnswer
-    ensures { λ r. ⌜ (numberOf (r .verdict) ≡ pointRefusal station) × (r .point ≡ lccAnswer station «i_dc_ka») ⌝ }
-{
-    answered(station, lcc_point(station, i_dc_ka))
-}
 
 // The point of any station, accepted or not.
 pub fn lcc_point(station: ConverterStation, i_dc_ka: f64) -> ConverterOperatingPoint

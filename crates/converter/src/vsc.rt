@@ -1,11 +1,8 @@
 // The voltage-source converter.
 ghost use mathlib.Core.Path.{_≡_};
-ghost use Rattle.rules.specs.Studies.{numberOf, pointRefusal};
-ghost use Rattle.converter.specs.Vsc.{modulation, lossesAt, lossFactor, vscPoint, vscAnswer};
-use crate::answer::ConverterOperatingPoint;
-use crate::answer::PointAnswer;
-use crate::answer::answered;
+ghost use Rattle.converter.specs.Vsc.{modulation, lossesAt, lossFactor, vscPoint};
 use crate::floor::LEAST;
+use crate::point::ConverterOperatingPoint;
 use float64::PI;
 use float64::abs;
 use float64::clamp;
@@ -18,13 +15,6 @@ use std::num::nearest_u64_to_f64;
 
 // The root of 1.5.
 const ROOT_OF_3_2: f64 = 1.224744871391589;
-
-// DcSwitchingSimulator::vsc_operating_point
-pub fn vsc_operating_point(station: ConverterStation, p_mw: f64, v_dc_kv: f64) -> PointAnswer
-    ensures { λ r. ⌜ (numberOf (r .verdict) ≡ pointRefusal station) × (r .point ≡ vscAnswer station «p_mw» «v_dc_kv») ⌝ }
-{
-    answered(station, vsc_point(station, p_mw, v_dc_kv))
-}
 
 // The point of any station, accepted or not.
 pub fn vsc_point(station: ConverterStation, p_mw: f64, v_dc_kv: f64) -> ConverterOperatingPoint

@@ -13,7 +13,7 @@ use Rattle.float64.specs.Arithmetic.{of}
 use Rattle.grid.specs.declared.simulator.DcSwitchingSimulator.{DcSwitchingSimulator}
 use Rattle.rules.specs.Studies.{flowRefusal}
 use Rattle.rules.proofs.Sizes.{size-claims}
-use Rattle.converter.specs.Answer.{blankPoint}
+use Rattle.converter.specs.Point.{blankPoint}
 use Rattle.flow_voltages.specs.Conductances.{stationCount, conductancesOf}
 use Rattle.flow_voltages.specs.Voltages.{voltagesOf}
 use Rattle.flow_voltages.proofs.Claims.{pass-claims, counted, first-pass}

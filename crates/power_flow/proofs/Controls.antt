@@ -6,7 +6,7 @@ use lib.Ieee.{Float, ofBits, ofInt, round, neg, add, sub, mul, div, lt, eq, isNa
 use Rattle.float64.specs.Choice.{maxOf, minOf, absOf, clampOf}
 use Rattle.square_root.specs.Root.{rootOf, floorRoot, nearestRoot}
 use Rattle.elementary.specs.Wave.{C, series}
-use Rattle.converter.specs.declared.answer.ConverterOperatingPoint.{ConverterOperatingPoint}
+use Rattle.converter.specs.declared.point.ConverterOperatingPoint.{ConverterOperatingPoint}
 use Rattle.converter.specs.Lcc.{lccPoint}
 use Rattle.converter.specs.Vsc.{vscPoint, modulation, lossFactor}
 use Rattle.flow_voltages.specs.Conductances.{entry, matrix}

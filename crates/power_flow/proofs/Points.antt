@@ -11,8 +11,8 @@ use Rattle.float64.specs.Constants.{nought}
 use Rattle.float64.specs.Arithmetic.{addedUp, sumOf, of}
 use Rattle.grid.specs.Simulator.{blankStation}
 use Rattle.grid.specs.declared.parts.ConverterStation.{ConverterStation}
-use Rattle.converter.specs.declared.answer.ConverterOperatingPoint.{ConverterOperatingPoint}
-use Rattle.converter.specs.Answer.{blankPoint}
+use Rattle.converter.specs.declared.point.ConverterOperatingPoint.{ConverterOperatingPoint}
+use Rattle.converter.specs.Point.{blankPoint}
 use Rattle.flow_voltages.specs.Balance.{current, currents}
 use Rattle.power_flow.specs.Solution.{operatingPoint, pointOf, operatingPoints}
 

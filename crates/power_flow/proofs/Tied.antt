@@ -10,7 +10,7 @@ use borrow.Fn.Kinds.{endedOf}
 use denote.Triple.Clauses.{AtExit}
 use Rattle.float64.specs.Constants.{nought}
 use Rattle.rules.specs.Studies.{numberOf}
-use Rattle.converter.specs.Answer.{blankPoint}
+use Rattle.converter.specs.Point.{blankPoint}
 use Rattle.power_flow.specs.declared.flow.DcGridSolution.{DcGridSolution}
 use Rattle.power_flow.specs.Flow.{blankSolution}
 use Rattle.power_flow.specs.Claims.{AnswerStops, AnswerSpent}

@@ -8,7 +8,7 @@ use Rattle.float64.specs.Constants.{nought}
 use Rattle.float64.specs.Arithmetic.{of}
 use Rattle.grid.specs.declared.simulator.DcSwitchingSimulator.{DcSwitchingSimulator}
 use Rattle.rules.specs.Studies.{flowRefusal}
-use Rattle.converter.specs.Answer.{blankPoint}
+use Rattle.converter.specs.Point.{blankPoint}
 use Rattle.flow_voltages.specs.Constants.{tolerance}
 use Rattle.flow_voltages.specs.Claims.{voltagesAfter, mismatchAfter}
 use Rattle.power_flow.specs.declared.flow.DcGridSolution.{DcGridSolution}

@@ -6,7 +6,7 @@ use lib.ListN.{replicate}
 use Rattle.float64.specs.Constants.{nought}
 use Rattle.grid.specs.declared.simulator.DcSwitchingSimulator.{DcSwitchingSimulator}
 use Rattle.rules.specs.Studies.{flowRefusal}
-use Rattle.converter.specs.Answer.{blankPoint}
+use Rattle.converter.specs.Point.{blankPoint}
 use Rattle.flow_voltages.specs.declared.voltages.Voltages.{Voltages}
 use Rattle.flow_voltages.specs.Conductances.{stationCount, conductancesOf}
 use Rattle.flow_voltages.specs.Voltages.{voltagesOf}

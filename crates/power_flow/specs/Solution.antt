@@ -13,8 +13,8 @@ use Rattle.grid.specs.declared.parts.ConverterStation.{ConverterStation}
 use Rattle.grid.specs.declared.parts.ConverterTopology.{ConverterTopology}
 use Rattle.grid.specs.declared.parts.ConverterTopology.the-variants.{Lcc, TwoLevelVsc, Mmc, Hybrid}
 use Rattle.grid.specs.declared.parts.DcCable.{DcCable}
-use Rattle.converter.specs.declared.answer.ConverterOperatingPoint.{ConverterOperatingPoint}
-use Rattle.converter.specs.Answer.{blankPoint}
+use Rattle.converter.specs.declared.point.ConverterOperatingPoint.{ConverterOperatingPoint}
+use Rattle.converter.specs.Point.{blankPoint}
 use Rattle.converter.specs.Lcc.{lccPoint}
 use Rattle.converter.specs.Vsc.{vscPoint}
 use Rattle.grid.specs.Cables.{resistance, cut}

@@ -4,7 +4,7 @@ ghost use Prim.Native.Nat.{_≤_};
 ghost use Rattle.lists.specs.Tables.{blank, padded};
 ghost use Rattle.float64.specs.Constants.{nought};
 ghost use Rattle.float64.specs.Arithmetic.{_⊗_, addedUp, sumOf, of};
-ghost use Rattle.converter.specs.Answer.{blankPoint};
+ghost use Rattle.converter.specs.Point.{blankPoint};
 ghost use Rattle.grid.specs.Simulator.{blankStation};
 ghost use lib.ListN.{getD};
 ghost use Rattle.power_flow.specs.Solution.{isLcc, operatingPoint, converterPoint, cableLoss, cableLosses};

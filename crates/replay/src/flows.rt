@@ -9,7 +9,7 @@ use crate::numbers::Cursor;
 use crate::numbers::ROOM;
 use crate::numbers::Taken;
 use converter::ConverterOperatingPoint;
-use converter::PointAnswer;
+use operating_points::PointAnswer;
 use power_flow::DcGridSolution;
 
 // Job 1: a grid.
@@ -41,7 +41,7 @@ pub fn lcc_point(lines: &mut [u8; ROOM], answers: &mut [u8; ROOM], c: Cursor) ->
     let Taken::Number(current, c) = numbers::next(lines, c) else {
         return After::Nothing(c);
     };
-    let answer = converter::lcc_operating_point(station, float64::from_bits(current));
+    let answer = operating_points::lcc_operating_point(station, float64::from_bits(current));
     point_answer(answers, c, answer)
 }
 
@@ -56,7 +56,7 @@ pub fn vsc_point(lines: &mut [u8; ROOM], answers: &mut [u8; ROOM], c: Cursor) ->
     let Taken::Number(v, c) = numbers::next(lines, c) else {
         return After::Nothing(c);
     };
-    let answer = converter::vsc_operating_point(
+    let answer = operating_points::vsc_operating_point(
         station,
         float64::from_bits(p),
         float64::from_bits(v),

@@ -2,12 +2,12 @@
 ghost use Prim.Native.Nat.{_<_};
 use crate::samples::sample_cable;
 use crate::samples::sample_station;
-use converter::lcc_operating_point;
-use converter::vsc_operating_point;
 use grid::ConverterStation;
 use grid::ConverterTopology;
 use grid::DcCable;
 use grid::DcSwitchingSimulator;
+use operating_points::lcc_operating_point;
+use operating_points::vsc_operating_point;
 use power_flow::solve_dc_power_flow;
 use std::num::nearest_u64_to_f64;
 use std::num::wrapping_add_u64;

@@ -1,9 +1,9 @@
 -- `operating_points` meets its contract. Assumes nothing.
-use Rattle.converter.specs.declared.answer.ConverterOperatingPoint.{ConverterOperatingPoint}
+use Rattle.converter.specs.declared.point.ConverterOperatingPoint.{ConverterOperatingPoint}
 use Rattle.grid.specs.declared.parts.ConverterStation.{ConverterStation}
 use Rattle.float64.proofs.Sums.{added-more}
 use Rattle.power_flow.specs.Solution.{operatingPoint}
-use Rattle.converter.specs.Answer.{blankPoint}
+use Rattle.converter.specs.Point.{blankPoint}
 use Rattle.grid.specs.Simulator.{blankStation}
 use Rattle.float64.specs.Arithmetic.{addedUp, of}
 use lib.ListN.{length, getD}

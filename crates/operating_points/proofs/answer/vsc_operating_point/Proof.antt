@@ -1,8 +1,8 @@
 -- `vsc_operating_point` meets its contract. Assumes nothing.
 use mathlib.Core.Path.{_∙_}
 use borrow.Author.Needs.{needs}
-use Rattle.converter.proofs.vsc.vsc_operating_point.Statement.{statement}
-use Rattle.converter.proofs.vsc.vsc_operating_point.Tie as tie
+use Rattle.operating_points.proofs.answer.vsc_operating_point.Statement.{statement}
+use Rattle.operating_points.proofs.answer.vsc_operating_point.Tie as tie
 
 vsc-point-requires : tie.Need-vsc-point-requires
 vsc-point-requires c κs = search needs

@@ -1,8 +1,8 @@
 -- `lcc_operating_point` meets its contract. Assumes nothing.
 use mathlib.Core.Path.{_∙_}
 use borrow.Author.Needs.{needs}
-use Rattle.converter.proofs.lcc.lcc_operating_point.Statement.{statement}
-use Rattle.converter.proofs.lcc.lcc_operating_point.Tie as tie
+use Rattle.operating_points.proofs.answer.lcc_operating_point.Statement.{statement}
+use Rattle.operating_points.proofs.answer.lcc_operating_point.Tie as tie
 
 lcc-point-requires : tie.Need-lcc-point-requires
 lcc-point-requires c κs = search needs

@@ -2,8 +2,8 @@
 use Rattle.lists.proofs.Counting.{yes, no}
 use mathlib.Core.Path.{_∙_}
 use borrow.Author.Needs.{needs}
-use Rattle.converter.proofs.answer.answered.Statement.{statement}
-use Rattle.converter.proofs.answer.answered.Tie as tie
+use Rattle.operating_points.proofs.answer.answered.Statement.{statement}
+use Rattle.operating_points.proofs.answer.answered.Tie as tie
 
 check-operating-point-requires : tie.Need-check-operating-point-requires
 check-operating-point-requires c κs = search needs
