@@ -10,12 +10,13 @@ use denote.Triple.Clauses.{AtExit}
 use denote.Ref.{now}
 use Rattle.rules.specs.Studies.{numberOf, faultRefusal, switchingRefusal}
 use Rattle.portions.specs.Calls.{Called, Made, Chain, last, and}
+use Rattle.portions.specs.Refusals.{RefusedIf}
 use Rattle.portions.proofs.Course.{chain-and}
 use Rattle.event.specs.declared.fault_run.FaultRun.{FaultRun}
 use Rattle.event.specs.declared.switching_run.SwitchingRun.{SwitchingRun}
 use Rattle.event.specs.FaultRuns.{faultStepper, faultRunAfter, startedFaultRun, advancedFaultRun, faultFigures}
 use Rattle.event.specs.SwitchingRuns.{switchingStepper, switchingRunAfter, startedSwitchingRun, advancedSwitchingRun, switchingResults}
-use Rattle.event.specs.Claims.{FaultBroken, SwitchingBroken, RefusedIf}
+use Rattle.event.specs.Claims.{FaultBroken, SwitchingBroken}
 use Rattle.event.proofs.Claims.{run-claims}
 use Rattle.event.proofs.Refusals.{refusal-claims}
 use Rattle.event.proofs.fault_run.simulate_fault as simulate-fault-contract

@@ -11,9 +11,10 @@ use Rattle.grid.specs.declared.simulator.DcSwitchingSimulator.{DcSwitchingSimul
 use Rattle.timing.specs.Steps.{stepsOf, recorded, recordsOf, recordLength}
 use Rattle.rules.specs.Studies.{faultRefusal, switchingRefusal}
 use Rattle.portions.specs.declared.Stop.the-variants.{Finished, Refused}
-use Rattle.portions.specs.Stopping.{numberOf, Stepper, joined}
+use Rattle.portions.specs.Stopping.{Stepper, joined}
 use Rattle.portions.specs.Tally.{runTally}
 use Rattle.portions.specs.Calls.{Called, Made, Chain, last, reported, and, handed, seen}
+use Rattle.portions.specs.Refusals.{RefusedIf}
 use Rattle.transient.specs.declared.state.DcTransientState.{DcTransientState}
 use Rattle.fault_step.specs.Fault.{faultAfter}
 use Rattle.switching_step.specs.Switching.{switchingAfter}
@@ -121,14 +122,6 @@ FaultBroken r = (faultRefusal (r .grid) (r .fault) ≡ 0 → ⊥) ⊎ (stepsOf (
 
 abbrev pub SwitchingBroken : SwitchingRun → Type 0
 SwitchingBroken r = (switchingRefusal (r .grid) ≡ 0 → ⊥) ⊎ (stepsOf (r .grid) < r .«steps_made»)
-
--- c, a call of s, is refused exactly if `Broken`, and then "nothing written, states unchanged"
-pub record RefusedIf {K : Type 0} (Broken : Type 0) (s : K) (c : Called Float K) : Type 0 where
-  pub refused-iff : (numberOf (c .stop) ≡ 11) ↔ Broken
-  pub no-steps : numberOf (c .stop) ≡ 11 → c .steps ≡ 0
-  pub no-records : numberOf (c .stop) ≡ 11 → c .count ≡ 0
-  pub same-run : numberOf (c .stop) ≡ 11 → c .kept ≡ s
-  pub same-memory : numberOf (c .stop) ≡ 11 → c .left ≡ c .lent
 
 pub record RefusalClaims : Type 0 where
   pub fault-test : (r : FaultRun) → (faultRunRefused r ≡ true) ↔ FaultBroken r

@@ -1,5 +1,6 @@
 pub mod Joined
 pub mod Loop
+pub mod Refusals
 pub mod Course
 pub mod Multiples
 pub mod Cases
