@@ -6,7 +6,7 @@ mod floats;
 mod flows;
 mod grids;
 mod numbers;
-mod runs;
+mod run_jobs;
 mod states;
 mod steps;
 mod studies;
@@ -31,13 +31,13 @@ fn answer(lines: &mut [u8; ROOM], answers: &mut [u8; ROOM], c: Cursor) -> After 
         1 => flows::flow(lines, answers, c),
         2 => flows::lcc_point(lines, answers, c),
         3 => flows::vsc_point(lines, answers, c),
-        4 => runs::fault_run(lines, answers, c),
-        5 => runs::switching_run(lines, answers, c),
+        4 => run_jobs::fault_run(lines, answers, c),
+        5 => run_jobs::switching_run(lines, answers, c),
         6 => states::detection(lines, answers, c),
         7 => studies::sweep(lines, answers, c),
         8 => floats::answer(lines, answers, c),
-        9 => runs::kept_fault_run(lines, answers, c),
-        10 => runs::kept_switching_run(lines, answers, c),
+        9 => run_jobs::kept_fault_run(lines, answers, c),
+        10 => run_jobs::kept_switching_run(lines, answers, c),
         12 => times::answer(lines, answers, c),
         13 => steps::answer(lines, answers, c),
         14 => circuits::answer(lines, answers, c),

@@ -2,10 +2,10 @@
 mod breakers;
 mod floats;
 mod flows;
-mod runs;
 mod samples;
 mod steps;
 mod studies;
+mod whole_runs;
 
 pub use breakers::sum_fastest;
 pub use floats::sum_cos;
@@ -15,8 +15,8 @@ pub use floats::sum_sqrt;
 pub use flows::solve_flows;
 pub use flows::sum_lcc_points;
 pub use flows::sum_vsc_points;
-pub use runs::sum_fault_runs;
-pub use runs::sum_switching_runs;
 pub use steps::sum_fault_currents;
 pub use steps::sum_steps;
 pub use studies::count_accepted;
+pub use whole_runs::sum_fault_runs;
+pub use whole_runs::sum_switching_runs;

@@ -1,7 +1,0 @@
-mod Turns
-mod FaultLoop
-mod SwitchingLoop
-mod Controls
-pub mod Claims
-pub mod Refusals
-pub mod Tied

@@ -1,3 +1,0 @@
-pub mod FaultRuns
-pub mod SwitchingRuns
-pub mod Claims

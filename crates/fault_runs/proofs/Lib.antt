@@ -1,0 +1,5 @@
+mod FaultLoop
+mod Controls
+pub mod Claims
+pub mod Refusals
+pub mod Tied

@@ -1,0 +1,176 @@
+-- `advance` of a fault run meets its contract. Assumes nothing.
+use Rattle.fault_runs.specs.FaultRuns.{faultStepper}
+use Rattle.runs.proofs.Turns.{Inside, inside, position, out-ok, leaves, more, more-steps, goes}
+use Rattle.fault_runs.proofs.FaultLoop.{faultKind, accepted, not-past, by-plan, quietly, still, returned}
+use Rattle.fault_step.specs.Plans.{planStep}
+use Rattle.fault_step.specs.Quiet.{restsBy}
+use Rattle.rules.proofs.Claims.{accepted-claims}
+use Rattle.rules.proofs.Sizes.{size-claims}
+use Rattle.portions.proofs.Loop.{came-refused}
+use Rattle.timing.specs.Steps.{mostSteps}
+use Rattle.lists.proofs.Counting.{contrary}
+use native.Mathlib.Omega.{arith}
+use Prim.Native.Nat.{_-_, _<_}
+use mathlib.Core.Bool.{true}
+use mathlib.Core.Logic.{⊎-elim}
+use mathlib.Core.Path.{_≡_, refl, sym, _∙_}
+use borrow.Author.Needs.{needs}
+use Rattle.fault_runs.proofs.fault_run.FaultRun.advance.Statement.{statement}
+use Rattle.fault_runs.proofs.fault_run.FaultRun.advance.Tie as tie
+
+abbrev Inv-loop : tie.InvT-loop
+Inv-loop allowance records₀ g fault n size space counts plan v₀ made₀ steps₀ out₀ resting₀ records v made steps out resting =
+    Inside (faultKind g fault) allowance records₀ n size space counts (planStep plan) v₀ made₀ records v made steps out × (resting ≡ true → restsBy plan v ≡ true)
+
+abbrev μ-loop : tie.MeasureT-loop
+μ-loop allowance records₀ g fault n size space counts plan v₀ made₀ steps₀ out₀ resting₀ records v made steps out resting = allowance - steps
+
+-- the start of the function, from its loop
+abbrev start : tie.At-loop Inv-loop μ-loop → tie.Start Inv-loop μ-loop
+start l = l .before .before .before .before .before .before .before .before .before .before .before
+
+-- the loop's head, from the end of a turn
+abbrev head : tie.After-slice-known2 Inv-loop μ-loop → tie.At-loop Inv-loop μ-loop
+head c = c .before .before .before .before .before .before .before .before
+
+-- the two ways to make a step: each is the plan's
+stepped : (j : tie.Joined3 Inv-loop μ-loop)
+    → let l = j .before .before .before .before in
+    let plan = l .before .before .fault-plan .result in
+    (j .if3 .v ≡ planStep plan (l .loop .made) (l .loop .v)) × (j .if3 .resting ≡ true → restsBy plan (j .if3 .v) ≡ true)
+stepped j =
+    let l = j .before .before .before .before in
+    let plan = l .before .before .fault-plan .result in
+    let flag = l .loop .inv .1 in
+    ⊎-elim
+    (λ w.
+    let is-v = w .2 ∙ w .1 .ensures ∙ quietly plan (l .loop .made) (l .loop .v) (l .loop .resting) flag (j .before .waits .result) (j .before .waits .ensures) (w .0 .taken) in
+    (is-v, λ r. rw is-v (still plan (l .loop .made) (l .loop .v) (l .loop .resting) flag (sym (w .3) ∙ r))))
+    (λ w. (w .3 ∙ w .1 .ensures, λ r. rw (w .3) (sym (w .2 .ensures) ∙ sym (w .4) ∙ r)))
+    (j .if3 .came)
+
+allowed : (c : tie.After-slice-known2 Inv-loop μ-loop) → head c .loop .steps < start (head c) .args .allowance
+allowed c =
+    let t = c .before .before .before .before .before .before in
+    more _ (head c .loop .inv .0) (t .before .is-recorded .result) (t .before .is-recorded .ensures) (t .if2 .left)
+
+one-more : (c : tie.After-slice-known2 Inv-loop μ-loop) → head c .loop .made < mostSteps
+one-more c =
+    let t = c .before .before .before .before .before .before in
+    omega (arith, more-steps _ (head c .loop .inv .0) (t .before .is-recorded .result) (t .before .is-recorded .ensures) (t .if2 .left), head c .loop .inv .0 .fixed .few)
+
+loop-again : tie.Need-loop-again Inv-loop μ-loop
+loop-again c =
+    let j = c .before .before .before .before in
+    let t = j .before .before in
+    let p = c .before .before .put-if-recorded .ensures in
+    (goes _ (head c .loop .inv .0) (t .before .is-recorded .result) (t .before .is-recorded .ensures) (t .if2 .left) _ (stepped j .0) _ (p .0) _ (p .1), stepped j .1)
+
+fault-run-refused-requires : tie.Need-fault-run-refused-requires Inv-loop μ-loop
+fault-run-refused-requires c κs = search needs
+
+returns : tie.Need-returns Inv-loop μ-loop
+returns c = returned (came-refused faultStepper _ _ _ (sym (c .before .fault-run-refused .ensures) ∙ c .if1 .taken))
+
+total-steps-requires : tie.Need-total-steps-requires Inv-loop μ-loop
+total-steps-requires c κs = search needs
+
+record-length-requires : tie.Need-record-length-requires Inv-loop μ-loop
+record-length-requires c κs = search needs
+
+div-space : tie.Need-div-space Inv-loop μ-loop
+div-space c = omega (arith, c .record-length .ensures)
+
+record-counts-requires : tie.Need-record-counts-requires Inv-loop μ-loop
+record-counts-requires c κs = search needs
+
+fault-plan-requires : tie.Need-fault-plan-requires Inv-loop μ-loop
+fault-plan-requires c κs = search needs
+
+loop-holds : tie.Need-loop-holds Inv-loop μ-loop
+loop-holds c =
+    let p = c .before in
+    let q = p .before .before .before .before .before .before in
+    let s = q .before .before .before .args .self in
+    let h = sym (q .before .fault-run-refused .ensures) ∙ q .if1 .left in
+    let z = accepted s h in (
+      inside (faultKind (s .grid) (s .fault)) _ _ _ _ _ _ _ _ (accepted-claims .fault (s .grid) (s .fault) z) (size-claims .fault (s .grid) (s .fault) z)
+          h (not-past s h) (p .before .before .before .total-steps .ensures) (p .before .before .record-length .ensures) (p .before .record-counts .ensures) (by-plan s h (p .fault-plan .result) (p .fault-plan .ensures)),
+      λ r. contrary r refl,
+    )
+
+is-recorded-requires : tie.Need-is-recorded-requires Inv-loop μ-loop
+is-recorded-requires c κs = search needs
+
+reason-requires : tie.Need-reason-requires Inv-loop μ-loop
+reason-requires c κs = search needs
+
+same-length : tie.Need-same-length Inv-loop μ-loop
+same-length c = c .before .before .before .loop .inv .0 .going .same-length
+
+returns-2 : tie.Need-returns-2 Inv-loop μ-loop
+returns-2 c =
+    let r = c .before .before in
+    rw (c .reason .ensures) (returned (leaves _ (r .before .loop .inv .0) (r .is-recorded .result) (r .is-recorded .ensures) (c .before .if2 .taken)))
+
+waits-requires : tie.Need-waits-requires Inv-loop μ-loop
+waits-requires c κs = search needs
+
+quiet-step-requires : tie.Need-quiet-step-requires Inv-loop μ-loop
+quiet-step-requires c κs = search needs
+
+fault-step-requires : tie.Need-fault-step-requires Inv-loop μ-loop
+fault-step-requires c κs = search needs
+
+rests-requires : tie.Need-rests-requires Inv-loop μ-loop
+rests-requires c κs = search needs
+
+mul-put-if-recorded : tie.Need-mul-put-if-recorded Inv-loop μ-loop
+mul-put-if-recorded c =
+    let l = c .before .before .before .before .before in
+    omega (arith, position _ (l .loop .inv .0), l .loop .inv .0 .going .same-length, start l .good .1 .1 .0)
+
+put-if-recorded-requires : tie.Need-put-if-recorded-requires Inv-loop μ-loop
+put-if-recorded-requires c κs = search needs
+
+add-out : tie.Need-add-out Inv-loop μ-loop
+add-out c = let x = loop-again c .0 in omega (arith, out-ok _ x, x .going .same-length, start (head c) .good .1 .1 .0)
+
+add-made : tie.Need-add-made Inv-loop μ-loop
+add-made c = omega (arith, one-more c)
+
+add-steps : tie.Need-add-steps Inv-loop μ-loop
+add-steps c = omega (arith, allowed c, start (head c) .fits .allowance)
+
+loop-less : tie.Need-loop-less Inv-loop μ-loop
+loop-less c = omega (arith, allowed c)
+
+pub advance-spec : {M : Type 1} → statement M
+advance-spec =
+    tie.close
+    (tie.spec
+    Inv-loop
+    μ-loop
+    fault-run-refused-requires
+    returns
+    total-steps-requires
+    record-length-requires
+    div-space
+    record-counts-requires
+    fault-plan-requires
+    loop-holds
+    is-recorded-requires
+    reason-requires
+    same-length
+    returns-2
+    waits-requires
+    quiet-step-requires
+    fault-step-requires
+    rests-requires
+    mul-put-if-recorded
+    put-if-recorded-requires
+    add-out
+    add-made
+    add-steps
+    loop-less
+    loop-again)

@@ -1,0 +1,58 @@
+-- `replay::runs::call_fault_run` lends a part of the memory. Assumes nothing.
+use lib.Seq.{length-take-le}
+use borrow.Author.Needs.{needs}
+use Rattle.replay.proofs.run_jobs.call_fault_run.Statement.{statement}
+use Rattle.replay.proofs.run_jobs.call_fault_run.Tie as tie
+
+next-row-requires : tie.Need-next-row-requires
+next-row-requires c κs = search needs
+
+returns : tie.Need-returns
+returns c = search needs
+
+array-read-cut : tie.Need-array-read-cut
+array-read-cut c = search needs
+
+cut-requires : tie.Need-cut-requires
+cut-requires c κs = search needs
+
+array-read-advance : tie.Need-array-read-advance
+array-read-advance c = search needs
+
+array-borrow-prefix-memory : tie.Need-array-borrow-prefix-memory
+array-borrow-prefix-memory c = search needs
+
+slice-aggregate-advance : tie.Need-slice-aggregate-advance
+slice-aggregate-advance c = search (needs, length-take-le)
+
+advance-requires : tie.Need-advance-requires
+advance-requires c κs = search needs
+
+append-portion-requires : tie.Need-append-portion-requires
+append-portion-requires c κs = search needs
+
+numbers-of-requires : tie.Need-numbers-of-requires
+numbers-of-requires c κs = search needs
+
+append-records-requires : tie.Need-append-records-requires
+append-records-requires c κs = search needs
+
+returns-2 : tie.Need-returns-2
+returns-2 c = search needs
+
+pub call-fault-run-spec : {M : Type 1} → statement M
+call-fault-run-spec =
+    tie.close
+    (tie.spec
+    next-row-requires
+    returns
+    array-read-cut
+    cut-requires
+    array-read-advance
+    array-borrow-prefix-memory
+    slice-aggregate-advance
+    advance-requires
+    append-portion-requires
+    numbers-of-requires
+    append-records-requires
+    returns-2)

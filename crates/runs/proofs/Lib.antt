@@ -1,0 +1,5 @@
+pub mod Turns
+pub mod Portions
+pub mod Refusals
+pub mod Claims
+pub mod Tied

@@ -1,0 +1,5 @@
+mod SwitchingLoop
+mod Controls
+pub mod Claims
+pub mod Refusals
+pub mod Tied

@@ -1,0 +1,142 @@
+-- `advance` of a switching run meets its contract. Assumes nothing.
+use Rattle.switching_runs.specs.SwitchingRuns.{switchingStepper}
+use Rattle.runs.proofs.Turns.{Inside, inside, position, out-ok, leaves, more, more-steps, goes}
+use Rattle.switching_runs.proofs.SwitchingLoop.{switchingKind, accepted, not-past, by-plan, returned}
+use Rattle.switching_step.specs.Plans.{switchingPlanStep}
+use Rattle.rules.proofs.Claims.{accepted-claims}
+use Rattle.rules.proofs.Sizes.{size-claims}
+use Rattle.portions.proofs.Loop.{came-refused}
+use native.Mathlib.Omega.{arith}
+use Rattle.timing.specs.Steps.{mostSteps}
+use Prim.Native.Nat.{_-_, _<_}
+use mathlib.Core.Path.{sym, _∙_}
+use borrow.Author.Needs.{needs}
+use Rattle.switching_runs.proofs.switching_run.SwitchingRun.advance.Statement.{statement}
+use Rattle.switching_runs.proofs.switching_run.SwitchingRun.advance.Tie as tie
+
+abbrev Inv-loop : tie.InvT-loop
+Inv-loop self allowance records₀ g n size space counts plan v₀ made₀ steps₀ out₀ records v made steps out =
+    Inside (switchingKind g (self .«breaker_id») (self .«open»)) allowance records₀ n size space counts (switchingPlanStep plan) v₀ made₀ records v made steps out
+
+abbrev μ-loop : tie.MeasureT-loop
+μ-loop self allowance records₀ g n size space counts plan v₀ made₀ steps₀ out₀ records v made steps out = allowance - steps
+
+-- the start of the function, from its loop
+abbrev start : tie.At-loop Inv-loop μ-loop → tie.Start Inv-loop μ-loop
+start l = l .before .before .before .before .before .before .before .before .before .before
+
+-- the loop's head, from the end of a turn
+abbrev head : tie.After-slice-known2 Inv-loop μ-loop → tie.At-loop Inv-loop μ-loop
+head c = c .before .before .before .before .before .before .before
+
+allowed : (c : tie.After-slice-known2 Inv-loop μ-loop) → head c .loop .steps < start (head c) .args .allowance
+allowed c =
+    let t = c .before .before .before .before .before in
+    more _ (head c .loop .inv) (t .before .is-recorded .result) (t .before .is-recorded .ensures) (t .if2 .left)
+
+one-more : (c : tie.After-slice-known2 Inv-loop μ-loop) → head c .loop .made < mostSteps
+one-more c =
+    let t = c .before .before .before .before .before in
+    omega (arith, more-steps _ (head c .loop .inv) (t .before .is-recorded .result) (t .before .is-recorded .ensures) (t .if2 .left), head c .loop .inv .fixed .few)
+
+loop-again : tie.Need-loop-again Inv-loop μ-loop
+loop-again c =
+    let s = c .before .before .before .before in
+    let t = s .before in
+    let p = c .before .before .put-if-recorded .ensures in
+    goes _ (head c .loop .inv) (t .before .is-recorded .result) (t .before .is-recorded .ensures) (t .if2 .left) _ (s .switching-step .ensures) _ (p .0) _ (p .1)
+
+switching-run-refused-requires : tie.Need-switching-run-refused-requires Inv-loop μ-loop
+switching-run-refused-requires c κs = search needs
+
+returns : tie.Need-returns Inv-loop μ-loop
+returns c = returned (came-refused switchingStepper _ _ _ (sym (c .before .switching-run-refused .ensures) ∙ c .if1 .taken))
+
+total-steps-requires : tie.Need-total-steps-requires Inv-loop μ-loop
+total-steps-requires c κs = search needs
+
+record-length-requires : tie.Need-record-length-requires Inv-loop μ-loop
+record-length-requires c κs = search needs
+
+div-space : tie.Need-div-space Inv-loop μ-loop
+div-space c = omega (arith, c .record-length .ensures)
+
+record-counts-requires : tie.Need-record-counts-requires Inv-loop μ-loop
+record-counts-requires c κs = search needs
+
+switching-plan-requires : tie.Need-switching-plan-requires Inv-loop μ-loop
+switching-plan-requires c κs = search needs
+
+loop-holds : tie.Need-loop-holds Inv-loop μ-loop
+loop-holds c =
+    let p = c .before in
+    let q = p .before .before .before .before .before in
+    let s = q .before .before .before .args .self in
+    let h = sym (q .before .switching-run-refused .ensures) ∙ q .if1 .left in
+    let z = accepted s h in
+    inside (switchingKind (s .grid) (s .«breaker_id») (s .«open»)) _ _ _ _ _ _ _ _ (accepted-claims .switching (s .grid) z) (size-claims .switching (s .grid) z)
+    h (not-past s h) (p .before .before .before .total-steps .ensures) (p .before .before .record-length .ensures) (p .before .record-counts .ensures) (by-plan s h (p .switching-plan .result) (p .switching-plan .ensures))
+
+is-recorded-requires : tie.Need-is-recorded-requires Inv-loop μ-loop
+is-recorded-requires c κs = search needs
+
+reason-requires : tie.Need-reason-requires Inv-loop μ-loop
+reason-requires c κs = search needs
+
+same-length : tie.Need-same-length Inv-loop μ-loop
+same-length c = c .before .before .before .loop .inv .going .same-length
+
+returns-2 : tie.Need-returns-2 Inv-loop μ-loop
+returns-2 c =
+    let r = c .before .before in
+    rw (c .reason .ensures) (returned (leaves _ (r .before .loop .inv) (r .is-recorded .result) (r .is-recorded .ensures) (c .before .if2 .taken)))
+
+switching-step-requires : tie.Need-switching-step-requires Inv-loop μ-loop
+switching-step-requires c κs = search needs
+
+mul-put-if-recorded : tie.Need-mul-put-if-recorded Inv-loop μ-loop
+mul-put-if-recorded c =
+    let l = c .before .before .before .before in
+    omega (arith, position _ (l .loop .inv), l .loop .inv .going .same-length, start l .good .1 .1 .0)
+
+put-if-recorded-requires : tie.Need-put-if-recorded-requires Inv-loop μ-loop
+put-if-recorded-requires c κs = search needs
+
+add-out : tie.Need-add-out Inv-loop μ-loop
+add-out c = let x = loop-again c in omega (arith, out-ok _ x, x .going .same-length, start (head c) .good .1 .1 .0)
+
+add-made : tie.Need-add-made Inv-loop μ-loop
+add-made c = omega (arith, one-more c)
+
+add-steps : tie.Need-add-steps Inv-loop μ-loop
+add-steps c = omega (arith, allowed c, start (head c) .fits .allowance)
+
+loop-less : tie.Need-loop-less Inv-loop μ-loop
+loop-less c = omega (arith, allowed c)
+
+pub advance-spec : {M : Type 1} → statement M
+advance-spec =
+    tie.close
+    (tie.spec
+    Inv-loop
+    μ-loop
+    switching-run-refused-requires
+    returns
+    total-steps-requires
+    record-length-requires
+    div-space
+    record-counts-requires
+    switching-plan-requires
+    loop-holds
+    is-recorded-requires
+    reason-requires
+    same-length
+    returns-2
+    switching-step-requires
+    mul-put-if-recorded
+    put-if-recorded-requires
+    add-out
+    add-made
+    add-steps
+    loop-less
+    loop-again)

@@ -1,0 +1,2 @@
+pub mod SwitchingRuns
+pub mod Claims

@@ -1,0 +1,9 @@
+// Switching runs: one breaker operation, run in portions on lent memory.
+mod switching_run;
+
+pub use runs::DcTransientResult;
+pub use switching_run::AdvancedSwitchingRun;
+pub use switching_run::StartedSwitchingRun;
+pub use switching_run::SwitchingRun;
+pub use switching_run::simulate_switching;
+pub use switching_step::SwitchingVariables;
