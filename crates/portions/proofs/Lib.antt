@@ -6,3 +6,4 @@ pub mod Multiples
 pub mod Cases
 pub mod Demand3
 mod Controls
+pub mod Tied
