@@ -10,6 +10,7 @@ mod steps;
 
 use crate::jobs::{
     is_kept, is_point, CIRCUIT, DETECTION, FAULT_RUN, FLOATS, FLOW, STEP, SWITCHING_RUN,
+    TIMED_FAULT_RUN,
 };
 use crate::plan::End;
 use std::f64::consts::PI;
@@ -69,6 +70,7 @@ pub fn job(number: u64, random: &mut Random) -> Drawn {
         STEP if random.below(4) > 0 => steps::job(random),
         CIRCUIT if random.below(4) > 0 => circuits::job(random),
         FAULT_RUN | SWITCHING_RUN if random.below(4) > 0 => runs::job(number, random),
+        TIMED_FAULT_RUN if random.below(4) > 0 => runs::timed(random),
         _ if is_kept(number) && random.below(4) > 0 => runs::kept(number, random),
         _ if is_point(number) && random.below(4) > 0 => points::job(number, random),
         _ => grids::job(number, random),

@@ -5,6 +5,7 @@ use crate::dc_switching::{
     ConverterStation, ConverterTopology, DcBreaker, DcBreakerType, DcCable, DcFaultEvent,
     DcFaultType, DcSwitchingSimulator, DcTransientState,
 };
+use crate::jobs::TIMED_FAULT_RUN;
 use crate::numbers::double;
 
 /// How many parts follow the counts at most.
@@ -55,6 +56,23 @@ pub fn grid(input: &mut impl Iterator<Item = u64>) -> Option<Grid> {
         n_cables,
         n_breakers,
     })
+}
+
+/// The grid of a job: as `new` made it, or with its two times set once it is there, which stand before it. A study raises such
+/// times where it uses them, as `new` does, and they are checked as they are given.
+pub fn grid_of(job: u64, input: &mut impl Iterator<Item = u64>) -> Option<Grid> {
+    if job != TIMED_FAULT_RUN {
+        return grid(input);
+    }
+    let dt_us = double(input.next()?);
+    let duration_ms = double(input.next()?);
+    let mut grid = grid(input)?;
+    let raised = DcSwitchingSimulator::new(dt_us, duration_ms);
+    grid.simulator.dt_us = raised.dt_us;
+    grid.simulator.duration_ms = raised.duration_ms;
+    grid.dt_us = dt_us;
+    grid.duration_ms = duration_ms;
+    Some(grid)
 }
 
 pub fn station(input: &mut impl Iterator<Item = u64>) -> Option<ConverterStation> {

@@ -27,9 +27,11 @@ pub const TIMES: u64 = 12;
 // What a fault run is made of, refused as one.
 pub const STEP: u64 = 13;
 pub const CIRCUIT: u64 = 14;
+/// A fault run on a grid whose time step and duration are set directly, past `new`.
+pub const TIMED_FAULT_RUN: u64 = 15;
 
 /// The jobs on a grid or a part of one.
-pub const GRID_JOBS: [(u64, &str); 12] = [
+pub const GRID_JOBS: [(u64, &str); 13] = [
     (FLOW, "flow"),
     (LCC_POINT, "LCC point"),
     (VSC_POINT, "VSC point"),
@@ -42,6 +44,7 @@ pub const GRID_JOBS: [(u64, &str); 12] = [
     (TIMES, "times"),
     (STEP, "RK4 step"),
     (CIRCUIT, "fault circuit"),
+    (TIMED_FAULT_RUN, "fault run at set times"),
 ];
 
 /// Whether a job is an operating point, which has a station and no grid.
@@ -51,7 +54,19 @@ pub fn is_point(job: u64) -> bool {
 
 /// Whether a job has a fault.
 pub fn has_fault(job: u64) -> bool {
-    matches!(job, FAULT_RUN | KEPT_FAULT_RUN | STEP | CIRCUIT)
+    matches!(
+        job,
+        FAULT_RUN | KEPT_FAULT_RUN | STEP | CIRCUIT | TIMED_FAULT_RUN
+    )
+}
+
+/// How many numbers of an answer stand before the refusal.
+pub fn before_refusal(job: u64) -> usize {
+    if job == TIMED_FAULT_RUN {
+        RUN_TIMES
+    } else {
+        0
+    }
 }
 
 /// Whether a job is a kept run, whose answer is a stop, or 11 for all that refuses it.
@@ -65,7 +80,7 @@ pub fn answer(input: &mut impl Iterator<Item = u64>, output: &mut Vec<u64>) -> O
         FLOW => flow(input, output)?,
         LCC_POINT => lcc_point(input, output)?,
         VSC_POINT => vsc_point(input, output)?,
-        FAULT_RUN => runs::fault_run(input, output)?,
+        job @ (FAULT_RUN | TIMED_FAULT_RUN) => runs::fault_run(job, input, output)?,
         SWITCHING_RUN => runs::switching_run(input, output)?,
         DETECTION => transients::detection(input, output)?,
         SWEEP => output.push(sweep(input)?),
@@ -169,17 +184,25 @@ fn record_length(g: &Grid) -> u64 {
 /// of a record, time step and duration in milliseconds, the fastest clearing time, and each breaker's.
 fn times(g: &Grid, output: &mut Vec<u64>) {
     let simulator = &g.simulator;
+    let [steps, interval, recorded, dt_ms, duration_ms] = run_times(simulator);
+    output.extend([steps, interval, recorded, record_length(g)]);
+    output.extend([dt_ms, duration_ms, bits(fastest_clearing_ms(simulator))]);
+    output.extend(simulator.breakers.iter().map(|b| bits(clearing_time_ms(b))));
+}
+
+/// How many numbers the times of a run are.
+const RUN_TIMES: usize = 5;
+
+/// The steps, counted to one past the limit, the recording interval, the recorded steps; time step and duration in milliseconds.
+fn run_times(simulator: &DcSwitchingSimulator) -> [u64; RUN_TIMES] {
     let steps = total_steps(simulator).min(rules::MOST_STEPS as usize + 1);
-    output.extend([
+    [
         steps as u64,
         record_interval(steps) as u64,
         recorded_steps(steps) as u64,
-        record_length(g),
         bits(time_step_ms(simulator)),
         bits(simulator.duration_ms),
-        bits(fastest_clearing_ms(simulator)),
-    ]);
-    output.extend(simulator.breakers.iter().map(|b| bits(clearing_time_ms(b))));
+    ]
 }
 
 /// The operations of job 8, by their numbers.
@@ -384,13 +407,14 @@ mod tests {
                 DETECTION => 2,
                 STEP => 1 + 2 * job[3] + job[4],
                 CIRCUIT => 8,
-                FAULT_RUN | SWITCHING_RUN => run_length(&job, &answer),
+                FAULT_RUN | SWITCHING_RUN | TIMED_FAULT_RUN => run_length(&job, &answer),
                 FLOATS => continue,
                 TIMES => 7 + job[5].min(BREAKERS),
                 _ => 1,
             };
-            let refused = job[0] != TIMES && !is_kept(job[0]) && answer[0] != 0;
-            let length = if refused { 1 } else { accepted };
+            let before = before_refusal(job[0]);
+            let refused = job[0] != TIMES && !is_kept(job[0]) && answer[before] != 0;
+            let length = if refused { before as u64 + 1 } else { accepted };
             assert_eq!(answer.len() as u64, length, "{job:?}");
         }
     }
@@ -398,10 +422,10 @@ mod tests {
     /// By the records that the calls say they wrote.
     fn run_length(job: &[u64], answer: &[u64]) -> u64 {
         let input = &mut job[1..].iter().copied();
-        let record = record_length(&grids::grid(input).unwrap());
-        let event = if job[0] == FAULT_RUN { 5 } else { 2 };
+        let record = record_length(&grids::grid_of(job[0], input).unwrap());
+        let event = if has_fault(job[0]) { 5 } else { 2 };
         let calls = runs::calls(&mut input.skip(event)).unwrap();
-        let mut at = 1;
+        let mut at = before_refusal(job[0]) as u64 + 1;
         for _ in calls {
             match answer.get(at as usize + 2) {
                 Some(records) => at += 3 + record * records,
@@ -427,7 +451,7 @@ mod tests {
         topology.stations[0][0] = 4;
         let mut kind = Plan::small(FLOW);
         kind.breakers[0][2] = 3;
-        let faults = [FAULT_RUN, STEP, CIRCUIT].map(|job| {
+        let faults = [FAULT_RUN, STEP, CIRCUIT, TIMED_FAULT_RUN].map(|job| {
             let mut plan = Plan::small(job);
             plan.event[0] = 3;
             plan

@@ -3,7 +3,7 @@
 use crate::grids::{CABLES, STATIONS};
 use crate::jobs::{
     has_fault, is_point, CIRCUIT, DETECTION, FAULT_RUN, FLOW, KEPT_FAULT_RUN, KEPT_SWITCHING_RUN,
-    LCC_POINT, STEP, SWEEP, SWITCHING_RUN, TIMES, VSC_POINT,
+    LCC_POINT, STEP, SWEEP, SWITCHING_RUN, TIMED_FAULT_RUN, TIMES, VSC_POINT,
 };
 use crate::numbers::NAN;
 use crate::rules::{self, Range};
@@ -12,7 +12,10 @@ use crate::rules::{self, Range};
 #[derive(Clone)]
 pub struct Plan {
     pub job: u64,
+    /// Time step and duration: handed to `new`, or of a fault run at set times those that are set.
     pub times: [u64; 2],
+    /// What is handed to `new` then.
+    pub first_times: [u64; 2],
     /// The parts that follow are as many as these say, but at most the arrays' lengths.
     pub counts: [u64; 3],
     pub stations: Vec<[u64; 11]>,
@@ -144,6 +147,7 @@ impl Plan {
         let mut plan = Plan {
             job,
             times: [1000f64.to_bits(), 1f64.to_bits()],
+            first_times: [1000f64.to_bits(), 1f64.to_bits()],
             counts: [1, 1, 1],
             stations: vec![[0; 11]],
             cables: vec![[0; 7]],
@@ -155,7 +159,7 @@ impl Plan {
             },
             rest: match job {
                 FLOW | DETECTION | TIMES => Vec::new(),
-                LCC_POINT | FAULT_RUN | SWEEP | KEPT_FAULT_RUN => vec![0],
+                LCC_POINT | FAULT_RUN | SWEEP | KEPT_FAULT_RUN | TIMED_FAULT_RUN => vec![0],
                 VSC_POINT => vec![0, 100f64.to_bits()],
                 SWITCHING_RUN | KEPT_SWITCHING_RUN => vec![0, 1, 0],
                 STEP => vec![1, 1e-6f64.to_bits()],
@@ -175,6 +179,9 @@ impl Plan {
             numbers.extend(self.stations[0]);
         } else {
             numbers.extend(self.times);
+            if self.job == TIMED_FAULT_RUN {
+                numbers.extend(self.first_times);
+            }
             numbers.extend(self.counts);
             numbers.extend(self.stations.iter().flatten());
             numbers.extend(self.cables.iter().flatten());

@@ -35,6 +35,10 @@ pub fn jobs() -> Vec<Vec<u64>> {
     circuits::circuits(&mut plans);
     let mut jobs: Vec<Vec<u64>> = plans.iter().map(Plan::numbers).collect();
     random(&mut jobs);
+    // Later ones stand at the end.
+    let mut plans = Vec::new();
+    runs::at_set_times(&mut plans);
+    jobs.extend(plans.iter().map(Plan::numbers));
     jobs
 }
 
@@ -457,13 +461,13 @@ fn answered(job: &[u64]) -> Vec<u64> {
 #[cfg(test)]
 mod tests {
     use super::*;
-    use crate::jobs::{is_kept, FLOATS};
+    use crate::jobs::{before_refusal, is_kept, FLOATS};
     use crate::rules::checked;
     use crate::tally::{Circuits, Kinds};
     use std::collections::BTreeSet;
 
     fn refusal(numbers: Vec<u64>) -> u64 {
-        answered(&numbers)[0]
+        answered(&numbers)[before_refusal(numbers[0])]
     }
 
     #[test]

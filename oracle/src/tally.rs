@@ -12,13 +12,14 @@ pub use circuits::Circuits;
 pub use detections::Detections;
 pub use flows::Flows;
 pub use points::Points;
-pub use runs::{FaultRuns, KeptRuns, SwitchingRuns};
+pub use runs::{FaultRuns, KeptRuns, SwitchingRuns, TimedFaultRuns};
 pub use steps::Steps;
 
 use crate::draw::Drawn;
 use crate::jobs::runs::REFUSED;
 use crate::jobs::{
-    is_kept, is_point, CIRCUIT, DETECTION, FAULT_RUN, FLOW, GRID_JOBS, STEP, SWITCHING_RUN, TIMES,
+    before_refusal, is_kept, is_point, CIRCUIT, DETECTION, FAULT_RUN, FLOW, GRID_JOBS, STEP,
+    SWITCHING_RUN, TIMED_FAULT_RUN, TIMES,
 };
 use crate::plan::End;
 use crate::rules;
@@ -38,6 +39,7 @@ pub struct Kinds {
     pub flows: Flows,
     pub points: Points,
     pub fault_runs: FaultRuns,
+    pub timed_fault_runs: TimedFaultRuns,
     pub switching_runs: SwitchingRuns,
     pub kept_runs: KeptRuns,
     pub detections: Detections,
@@ -51,10 +53,13 @@ impl Kinds {
         match job[0] {
             number if is_kept(number) => self.kept_runs.add(job, answer),
             TIMES => {}
-            _ if answer[0] != 0 => {}
+            number if answer[before_refusal(number)] != 0 => {}
             FLOW => self.flows.add(job, answer),
             number if is_point(number) => self.points.add(answer),
             FAULT_RUN => self.fault_runs.add(job, answer),
+            TIMED_FAULT_RUN => self
+                .timed_fault_runs
+                .add(job, &answer[before_refusal(job[0])..]),
             SWITCHING_RUN => self.switching_runs.add(job, answer),
             DETECTION => self.detections.add(job, answer),
             STEP => self.steps.add(job, answer),
@@ -68,6 +73,7 @@ impl Kinds {
         let mut all = self.flows.counted().to_vec();
         all.extend(self.points.counted());
         all.extend(self.fault_runs.counted());
+        all.extend(self.timed_fault_runs.counted());
         all.extend(self.switching_runs.counted());
         all.extend(self.kept_runs.counted());
         all.extend(self.detections.counted());
@@ -98,7 +104,7 @@ impl fmt::Display for Kinds {
     fn fmt(&self, f: &mut fmt::Formatter) -> fmt::Result {
         write!(f, "{}{}", self.flows, self.points)?;
         write!(f, "{}{}", self.fault_runs, self.switching_runs)?;
-        write!(f, "{}", self.kept_runs)?;
+        write!(f, "{}{}", self.timed_fault_runs, self.kept_runs)?;
         write!(f, "{}{}{}", self.detections, self.steps, self.circuits)
     }
 }
@@ -107,7 +113,7 @@ impl Tally {
     /// Adds a job on a grid with its answer.
     pub fn add(&mut self, job: &Drawn, numbers: &[u64]) {
         let number = job.numbers[0];
-        let answer = match numbers[0] {
+        let answer = match numbers[before_refusal(number)] {
             _ if number == TIMES => 0,
             stop if is_kept(number) && stop != REFUSED => 0,
             refusal => refusal,

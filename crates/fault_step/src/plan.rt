@@ -2,8 +2,8 @@
 ghost use mathlib.Core.Path.{_≡_};
 ghost use Rattle.fault_step.specs.Fault.{beforeLoop};
 ghost use Rattle.fault_step.specs.Plans.{constantsOf, planOf};
-use crate::variables::FaultVariables;
 use breaker_times::fastest_breaker_clearing_ms;
+use crate::variables::FaultVariables;
 use fault_circuit::FaultCircuit;
 use fault_circuit::fault_circuit;
 use grid::DcFaultEvent;

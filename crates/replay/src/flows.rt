@@ -1,6 +1,7 @@
 // Jobs 1, 2 and 3: a flow and the operating points of a converter. The answer is a refusal, 0 for what is accepted, and then the
 // result.
 ghost use Prim.Native.Nat.{_≤_};
+use converter::ConverterOperatingPoint;
 use crate::After;
 use crate::grids;
 use crate::grids::StationRead;
@@ -8,7 +9,6 @@ use crate::numbers;
 use crate::numbers::Cursor;
 use crate::numbers::ROOM;
 use crate::numbers::Taken;
-use converter::ConverterOperatingPoint;
 use operating_points::PointAnswer;
 use power_flow::DcGridSolution;
 

@@ -41,6 +41,7 @@ fn answer(lines: &mut [u8; ROOM], answers: &mut [u8; ROOM], c: Cursor) -> After 
         12 => times::answer(lines, answers, c),
         13 => steps::answer(lines, answers, c),
         14 => circuits::answer(lines, answers, c),
+        15 => runs::timed_fault_run(lines, answers, c),
         _ => After::Nothing(c),
     }
 }

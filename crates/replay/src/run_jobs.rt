@@ -1,4 +1,4 @@
-// Jobs 4, 5, 9 and 10: fault runs and switching runs in portions, and kept runs.
+// Jobs 4, 5 and 15: fault runs and switching runs in portions. Jobs 9 and 10: kept runs.
 ghost use Prim.Native.Nat.{_≤_};
 use crate::After;
 use crate::faults;
@@ -9,8 +9,11 @@ use crate::numbers::Cursor;
 use crate::numbers::ROOM;
 use crate::numbers::Taken;
 use crate::studies;
+use crate::times;
 use fault_runs::FaultRun;
 use fault_step::FaultVariables;
+use grid::DcFaultEvent;
+use grid::DcSwitchingSimulator;
 use portions::Stop;
 use runs::DcTransientResult;
 use switching_runs::SwitchingRun;
@@ -46,6 +49,42 @@ pub fn fault_run(lines: &mut [u8; ROOM], answers: &mut [u8; ROOM], c: Cursor) ->
     let FaultRead::Fault(fault, c) = faults::read_fault(lines, c) else {
         return After::Nothing(c);
     };
+    run_fault(lines, answers, c, g, fault)
+}
+
+// Job 15: a time step and a duration, then as job 4. The two fields of the grid are set to them once it is there, past `new`, which
+// raises what lies in its range: so a run meets times below the least ones. The answer begins with the times that a study uses, then
+// as job 4.
+pub fn timed_fault_run(lines: &mut [u8; ROOM], answers: &mut [u8; ROOM], c: Cursor) -> After {
+    let row = numbers::next_row(lines, c, 2);
+    if row.ended {
+        return After::Nothing(c);
+    }
+    let n = row.numbers;
+    let c = row.c;
+    let r = grids::read_grid(lines, c);
+    if r.ended {
+        return After::Nothing(c);
+    }
+    let mut g = r.grid;
+    g.dt_us = float64::from_bits(n[0]);
+    g.duration_ms = float64::from_bits(n[1]);
+    let c = r.c;
+    let FaultRead::Fault(fault, c) = faults::read_fault(lines, c) else {
+        return After::Nothing(c);
+    };
+    let c = times::append_run_times(answers, c, g);
+    run_fault(lines, answers, c, g, fault)
+}
+
+// The refusal, then the calls.
+fn run_fault(
+    lines: &mut [u8; ROOM],
+    answers: &mut [u8; ROOM],
+    c: Cursor,
+    g: DcSwitchingSimulator,
+    fault: DcFaultEvent,
+) -> After {
     let started = fault_runs::simulate_fault(g, fault);
     let verdict = started.verdict;
     let run = started.run;

@@ -15,23 +15,28 @@ pub fn answer(lines: &mut [u8; ROOM], answers: &mut [u8; ROOM], c: Cursor) -> Af
     }
     let g = r.grid;
     let c = r.c;
-    let c = append_steps(answers, c, g);
+    let c = append_steps(answers, c, timing::total_steps(g));
+    let c = numbers::append(answers, c, timing::record_length(g) as u64);
     let c = append_times(answers, c, g);
+    let c = numbers::append_double(answers, c, breaker_times::fastest_breaker_clearing_ms(g));
     After::Job(append_clearing_times(answers, c, g))
 }
 
-fn append_steps(answers: &mut [u8; ROOM], c: Cursor, g: DcSwitchingSimulator) -> Cursor {
-    let steps = timing::total_steps(g);
+// Steps, recording interval, recorded steps; time step and duration in milliseconds: what a run uses of the grid's two times.
+pub fn append_run_times(answers: &mut [u8; ROOM], c: Cursor, g: DcSwitchingSimulator) -> Cursor {
+    let c = append_steps(answers, c, timing::total_steps(g));
+    append_times(answers, c, g)
+}
+
+fn append_steps(answers: &mut [u8; ROOM], c: Cursor, steps: u64) -> Cursor {
     let c = numbers::append(answers, c, steps);
     let c = numbers::append(answers, c, timing::record_interval(steps));
-    let c = numbers::append(answers, c, timing::recorded_steps(steps));
-    numbers::append(answers, c, timing::record_length(g) as u64)
+    numbers::append(answers, c, timing::recorded_steps(steps))
 }
 
 fn append_times(answers: &mut [u8; ROOM], c: Cursor, g: DcSwitchingSimulator) -> Cursor {
     let c = numbers::append_double(answers, c, timing::time_step_ms(g));
-    let c = numbers::append_double(answers, c, timing::duration_ms(g));
-    numbers::append_double(answers, c, breaker_times::fastest_breaker_clearing_ms(g))
+    numbers::append_double(answers, c, timing::duration_ms(g))
 }
 
 fn append_clearing_times(answers: &mut [u8; ROOM], c: Cursor, g: DcSwitchingSimulator) -> Cursor {

@@ -5,7 +5,7 @@ use crate::dc_switching::{total_steps, DcSwitchingSimulator};
 use crate::grids::{BREAKERS, CABLES, STATIONS};
 use crate::jobs::{
     has_fault, is_kept, is_point, CIRCUIT, DETECTION, FAULT_RUN, LCC_POINT, STEP, SWEEP,
-    SWITCHING_RUN, TIMES, VSC_POINT,
+    SWITCHING_RUN, TIMED_FAULT_RUN, TIMES, VSC_POINT,
 };
 use crate::numbers::double;
 use crate::plan::{Accepted, End, Field, Plan, MMC};
@@ -109,7 +109,7 @@ fn plan(job: u64, counts: [u64; 3], random: &mut Random) -> Plan {
         plan.event[0] = random.below(3);
     }
     match job {
-        FAULT_RUN => plan.rest = calls(random),
+        FAULT_RUN | TIMED_FAULT_RUN => plan.rest = calls(random),
         DETECTION => plan.states = detections::states(&plan, random),
         STEP => {
             plan.rest = steps::rest(random);
@@ -238,7 +238,7 @@ fn set_any_times(plan: &mut Plan, random: &mut Random) {
     }
 }
 
-fn any_double(random: &mut Random) -> u64 {
+pub fn any_double(random: &mut Random) -> u64 {
     match random.below(4) {
         0 => random.bits(),
         1 => random.pick(&OUTSIDE).to_bits(),

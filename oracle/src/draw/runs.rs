@@ -1,13 +1,13 @@
 //! Runs that no rule refuses, and their calls: mostly of a few steps, at times of so many that not all are recorded; portions of
 //! every size, memory that is too small too.
 
-use super::grids::{magnitude, seen_in, set_inside};
+use super::grids::{any_double, magnitude, seen_in, set_inside};
 use super::steps::grid;
 use super::{grids, power_of_ten, Drawn, Random};
 use crate::dc_switching::{time_step_ms, total_steps};
-use crate::grids::{grid as read_grid, Grid, BREAKERS};
+use crate::grids::{grid_of, Grid, BREAKERS};
 use crate::jobs::runs::{Call, Steps, MOST_SPACE};
-use crate::jobs::{has_fault, KEPT_SWITCHING_RUN, SWITCHING_RUN};
+use crate::jobs::{has_fault, KEPT_SWITCHING_RUN, SWITCHING_RUN, TIMED_FAULT_RUN};
 use crate::plan::{Plan, HYBRID, MECHANICAL};
 use crate::rules::{BREAKER_TIME, DURATION, INCEPTION};
 
@@ -32,6 +32,58 @@ pub fn job(number: u64, random: &mut Random) -> Drawn {
     }
     plan.rest.extend(calls(Steps::of(&grid), random));
     drawn(plan)
+}
+
+/// A fault run on a grid whose times are set directly: mostly below the least ones, at them or beside them, and one in eight outside
+/// its range. What `new` was handed is anything.
+pub fn timed(random: &mut Random) -> Drawn {
+    let mut plan = run_grid(TIMED_FAULT_RUN, random);
+    plan.first_times = [any_double(random), any_double(random)];
+    plan.times = set_times(random);
+    set_moments(&mut plan, random);
+    let grid = read(&plan);
+    plan.rest = calls(Steps::of(&grid), random);
+    if random.below(8) == 0 {
+        let which = random.below(2) as usize;
+        plan.times[which] = any_double(random);
+    }
+    drawn(plan)
+}
+
+/// Of a time step below the least one, at it or beside it, some steps, or a duration that is so; or any accepted times.
+fn set_times(random: &mut Random) -> [u64; 2] {
+    if random.below(4) == 0 {
+        return short_times(random);
+    }
+    let dt_us = beside_least(LEAST_TIME_STEP_US, random);
+    let steps = (1 + random.below(60)) as f64;
+    let duration_ms = match random.below(2) {
+        0 => beside_least(LEAST_DURATION_MS, random),
+        _ => steps * (dt_us.max(LEAST_TIME_STEP_US) / 1000.0),
+    };
+    [dt_us, duration_ms].map(f64::to_bits)
+}
+
+/// What `new` raises to at least.
+const LEAST_TIME_STEP_US: f64 = 0.1;
+const LEAST_DURATION_MS: f64 = 0.001;
+
+/// A time from 0 to a little more than the least.
+fn beside_least(least: f64, random: &mut Random) -> f64 {
+    let any = random.fraction() * least;
+    random.pick(&[
+        0.0,
+        0.0,
+        -0.0,
+        f64::from_bits(1),
+        least / 2.0,
+        least / 2.0,
+        any,
+        least.next_down(),
+        least,
+        least.next_up(),
+        2.0 * least,
+    ])
 }
 
 /// A kept run on a grid that is accepted, with steps made around the number of its steps.
@@ -70,7 +122,7 @@ pub fn switched(plan: &Plan, random: &mut Random) -> Vec<u64> {
 }
 
 fn read(plan: &Plan) -> Grid {
-    read_grid(&mut plan.numbers().into_iter().skip(1)).expect("a whole grid")
+    grid_of(plan.job, &mut plan.numbers().into_iter().skip(1)).expect("a whole grid")
 }
 
 /// A grid as for steps, with more breakers, and for a switching at times without a cable.

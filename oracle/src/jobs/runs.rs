@@ -1,6 +1,6 @@
 //! Fault runs and switching runs in portions, and kept runs.
 
-use super::record_length;
+use super::{record_length, run_times, TIMED_FAULT_RUN};
 use crate::dc_switching::{record_interval, total_steps, DcTransientResult, DcTransientState};
 use crate::grids::{self, Grid};
 use crate::numbers::bits;
@@ -89,10 +89,18 @@ impl Steps {
     }
 }
 
-pub fn fault_run(input: &mut impl Iterator<Item = u64>, output: &mut Vec<u64>) -> Option<()> {
-    let grid = grids::grid(input)?;
+/// At times that are set directly, the answer begins with them.
+pub fn fault_run(
+    job: u64,
+    input: &mut impl Iterator<Item = u64>,
+    output: &mut Vec<u64>,
+) -> Option<()> {
+    let grid = grids::grid_of(job, input)?;
     let fault = grids::fault(input)?;
     let calls = calls(input)?;
+    if job == TIMED_FAULT_RUN {
+        output.extend(run_times(&grid.simulator));
+    }
     let refusal = rules::fault(&grid, &fault);
     run(
         &grid,
@@ -369,6 +377,27 @@ mod tests {
             push_record(state, &mut output);
         }
         output
+    }
+
+    /// Below the least times a run is the one at the least ones; outside the ranges it is refused, after the times that a study uses.
+    #[test]
+    fn runs_at_set_times() {
+        let least = [0.0001, 0.001].map(f64::to_bits);
+        for (dt_us, duration_ms) in [(0.0, 0.0), (0.05, 0.0005), (-0.0, 0.001), (0.1, 0.0)] {
+            let mut plan = four_steps(TIMED_FAULT_RUN, &[[u64::MAX, 4096]]);
+            plan.times = [dt_us, duration_ms].map(f64::to_bits);
+            let output = answered(&plan.numbers());
+            assert_eq!(output[..5], [10, 1, 10, least[0], least[1]]);
+            let mut plan = four_steps(FAULT_RUN, &[[u64::MAX, 4096]]);
+            plan.times = [0.1, 0.001].map(f64::to_bits);
+            assert_eq!(output[5..], answered(&plan.numbers()));
+        }
+        let mut plan = four_steps(TIMED_FAULT_RUN, &[[u64::MAX, 4096]]);
+        plan.times = [f64::NAN, -1.0].map(f64::to_bits);
+        assert_eq!(
+            answered(&plan.numbers()),
+            [10, 1, 10, least[0], least[1], 4]
+        );
     }
 
     #[test]

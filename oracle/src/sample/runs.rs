@@ -3,7 +3,9 @@
 use super::flows::station;
 use super::steps::{cable, four};
 use super::{answered, broken, last_rule};
-use crate::jobs::{FAULT_RUN, KEPT_FAULT_RUN, KEPT_SWITCHING_RUN, SWITCHING_RUN};
+use crate::jobs::{
+    has_fault, FAULT_RUN, KEPT_FAULT_RUN, KEPT_SWITCHING_RUN, SWITCHING_RUN, TIMED_FAULT_RUN,
+};
 use crate::numbers::double;
 use crate::plan::{Plan, HYBRID, LCC, MECHANICAL, MMC, SOLID_STATE};
 use crate::rules::{INCEPTION, LAST_NUMBER, RESISTANCE};
@@ -52,7 +54,7 @@ fn run(job: u64, calls: Calls) -> Plan {
     plan.cables = vec![cable(0, 1, 2.0, 100.0, 40.0, 200.0)];
     plan.breakers = vec![breaker(MECHANICAL, 0.7, 0.0)];
     plan.counts = [2, 1, 1];
-    if job == FAULT_RUN {
+    if has_fault(job) {
         plan.event = vec![1, 0];
         plan.event.extend([0.5f64, 10.0, 0.3].map(f64::to_bits));
     }
@@ -407,6 +409,91 @@ fn kept(plans: &mut Vec<Plan>) {
             }
         }
     }
+}
+
+/// Fault runs on a grid whose times are set directly: below the least ones, at them and beside them, in range, and outside; with a
+/// breaker that clears in the sixth step of the least length, and without, since the duration counts then. What `new` was handed is
+/// the same, or other times, which change nothing.
+pub fn at_set_times(plans: &mut Vec<Plan>) {
+    let [least_us, least_ms] = [0.1, 0.001];
+    let [tiny, nan] = [f64::from_bits(1), f64::NAN];
+    let accepted = [
+        (0.0, 0.002),
+        (-0.0, 0.002),
+        (tiny, 0.002),
+        (0.05, 0.002),
+        (f64::next_down(least_us), 0.002),
+        (least_us, 0.002),
+        (f64::next_up(least_us), 0.002),
+        (100.0, 0.0),
+        (100.0, -0.0),
+        (100.0, 0.0005),
+        (0.25, 0.0),
+        (0.25, f64::next_down(least_ms)),
+        (0.25, least_ms),
+        (0.25, f64::next_up(least_ms)),
+        (0.0, 0.0),
+        (-0.0, -0.0),
+        (0.05, 0.0005),
+        (0.05, tiny),
+        (100.0, 2.0),
+        (300.0, 1.0),
+        (1e6, 1e5),
+    ];
+    let clears = [breaker(SOLID_STATE, 0.5, 0.1)];
+    for (dt_us, duration_ms) in accepted {
+        for breakers in [&clears[..], &[]] {
+            plans.push(at_times(dt_us, duration_ms, [1000.0, 1.0], breakers));
+        }
+    }
+    for first in [
+        [0.0, 0.0],
+        [nan, nan],
+        [-1.0, -1.0],
+        [1e6, 1e5],
+        [10.0, 0.1],
+    ] {
+        plans.push(at_times(0.05, 0.0005, first, &clears));
+    }
+    // Some steps at a time.
+    let by_steps = at_times(0.05, 0.002, [10.0, 0.1], &clears);
+    plans.push(with_calls(
+        by_steps,
+        &[[3, 4096], [MOST, 32], [0, 0], [9, 4096], WHOLE[0]],
+    ));
+    let refused = [
+        (nan, 0.002),
+        (0.05, nan),
+        (nan, nan),
+        (-1.0, 0.002),
+        (0.05, -1.0),
+        (-tiny, 0.002),
+        (0.05, -tiny),
+        (f64::INFINITY, 0.002),
+        (0.05, f64::INFINITY),
+        (f64::INFINITY, f64::INFINITY),
+        (f64::NEG_INFINITY, f64::NEG_INFINITY),
+        (f64::next_up(1e6), 0.002),
+        (0.05, f64::next_up(1e5)),
+    ];
+    // By rule 5, and the most steps that there may be.
+    let longest = [(0.0, 100.0), (0.0, f64::next_up(100.0)), (0.05, 1e5)];
+    for (dt_us, duration_ms) in refused.into_iter().chain(longest) {
+        let plan = at_times(dt_us, duration_ms, [1000.0, 1.0], &clears);
+        plans.push(with_calls(plan, &[[2, 4096]]));
+    }
+    for rule in 1..=last_rule(TIMED_FAULT_RUN) {
+        plans.push(broken(&Plan::small(TIMED_FAULT_RUN), rule));
+    }
+}
+
+fn at_times(dt_us: f64, duration_ms: f64, first: [f64; 2], breakers: &[[u64; 7]]) -> Plan {
+    let mut plan = run(TIMED_FAULT_RUN, WHOLE);
+    plan.times = [dt_us, duration_ms].map(f64::to_bits);
+    plan.first_times = first.map(f64::to_bits);
+    plan.event[4] = 0;
+    set_breakers(&mut plan, breakers);
+    plan
 }
 
 #[cfg(test)]

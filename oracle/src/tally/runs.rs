@@ -272,6 +272,56 @@ impl fmt::Display for FaultRuns {
     }
 }
 
+/// Fault runs at times that are set directly: how these stand to the least ones.
+#[derive(Default)]
+pub struct TimedFaultRuns(Counts);
+
+impl TimedFaultRuns {
+    /// Adds an accepted run with its answer from the refusal on.
+    pub fn add(&mut self, job: &[u64], answer: &[u64]) {
+        let numbers = &mut job[1..].iter().copied();
+        let grid = grids::grid_of(job[0], numbers).expect("a whole job");
+        grids::fault(numbers).expect("a whole job");
+        let [dt_us, duration_ms] = [grid.dt_us, grid.duration_ms];
+        let run = Run::read(grid, numbers, answer);
+        let simulator = &run.grid.simulator;
+        let low_step = dt_us < simulator.dt_us;
+        let low_duration = duration_ms < simulator.duration_ms;
+        self.0.add(vec![
+            ("no time step", dt_us == 0.0),
+            ("a time step below the least", low_step),
+            ("no duration", duration_ms == 0.0),
+            ("a duration below the least", low_duration),
+            ("both below the least", low_step && low_duration),
+            ("neither", !low_step && !low_duration),
+            (
+                "several steps made below the least",
+                low_step && run.steps.made > 1,
+            ),
+            (
+                "cleared below the least",
+                low_step && run.cleared && run.clearing_ms > 0.0,
+            ),
+            (
+                "no breaker, and no clearing before the least duration",
+                low_duration && simulator.breakers.is_empty() && run.is_finished(),
+            ),
+        ]);
+    }
+
+    /// What was counted, each with its name.
+    pub fn counted(&self) -> impl Iterator<Item = (&'static str, u64)> + '_ {
+        self.0.kinds.iter().copied()
+    }
+}
+
+impl fmt::Display for TimedFaultRuns {
+    fn fmt(&self, f: &mut fmt::Formatter) -> fmt::Result {
+        let what = "accepted fault runs at set times";
+        write_counted(f, self.0.all, what, self.counted())
+    }
+}
+
 #[derive(Default)]
 pub struct SwitchingRuns(Counts);
 
