@@ -7,7 +7,7 @@ use Rattle.lists.specs.Scans.{some}
 use Rattle.lists.proofs.Scanning.{or-second, some-found, some-same}
 use Rattle.grid.specs.declared.simulator.DcSwitchingSimulator.{DcSwitchingSimulator}
 use Rattle.rules.specs.Studies.{detectionRefusal}
-use Rattle.transient.specs.declared.state.DcTransientState.{DcTransientState}
+use Rattle.state_derivatives.specs.declared.state.DcTransientState.{DcTransientState}
 use Rattle.detection.specs.Detection.{timeBetween, fastCable, lowStation, detected, detection}
 use Rattle.detection.specs.Claims.{Alike, DetectionClaims}
 

@@ -9,7 +9,7 @@ use Rattle.float64.specs.Choice.{maxOf, absOf}
 use Rattle.grid.specs.Simulator.{blankStation}
 use Rattle.grid.specs.declared.parts.ConverterStation.{ConverterStation}
 use Rattle.grid.specs.declared.simulator.DcSwitchingSimulator.{DcSwitchingSimulator}
-use Rattle.transient.specs.declared.state.DcTransientState.{DcTransientState}
+use Rattle.state_derivatives.specs.declared.state.DcTransientState.{DcTransientState}
 use Rattle.detection.specs.Detection.{detected}
 
 -- rated 100 kV and 200 kV

@@ -5,7 +5,7 @@ use mathlib.Core.Bool.{true, false}
 use Rattle.float64.specs.Arithmetic.{of}
 use Rattle.grid.specs.declared.simulator.DcSwitchingSimulator.{DcSwitchingSimulator}
 use Rattle.rules.specs.Studies.{detectionRefusal}
-use Rattle.transient.specs.declared.state.DcTransientState.{DcTransientState}
+use Rattle.state_derivatives.specs.declared.state.DcTransientState.{DcTransientState}
 use Rattle.detection.specs.Detection.{timeBetween, fastCable, lowStation, detected, detection}
 
 -- two states that are one as far as a grid's counts go

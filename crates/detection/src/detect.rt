@@ -12,7 +12,7 @@ use grid::DcSwitchingSimulator;
 use rules::Verdict;
 use rules::check_detection;
 use rules::number;
-use transient::DcTransientState;
+use state_derivatives::DcTransientState;
 
 // Nothing is detected where the grid is refused.
 pub struct DetectionAnswer {

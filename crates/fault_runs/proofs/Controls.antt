@@ -22,7 +22,7 @@ use Rattle.portions.specs.declared.Stop.{Stop}
 use Rattle.portions.specs.declared.Stop.the-variants.{Finished, Spent, Full, Refused}
 use Rattle.portions.specs.Stopping.{joined, advance, answerOf, memoryOf}
 use Rattle.portions.specs.Calls.{Called, Chain, handed}
-use Rattle.transient.specs.declared.state.DcTransientState.{DcTransientState}
+use Rattle.state_derivatives.specs.declared.state.DcTransientState.{DcTransientState}
 use Rattle.fault_step.specs.declared.variables.FaultVariables.{FaultVariables}
 use Rattle.fault_step.specs.Fault.{beforeInception, body, faultBody, beforeLoop, faultAfter}
 use Rattle.records.specs.Records.{recordWith}

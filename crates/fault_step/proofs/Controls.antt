@@ -26,8 +26,8 @@ use Rattle.grid.specs.declared.simulator.DcSwitchingSimulator.{DcSwitchingSimul
 use Rattle.breaker_times.specs.Breakers.{clearingTimeOf, fastestOf}
 use Rattle.network.specs.Capacitance.{ownCapacitance, joinedCapacitance}
 use Rattle.network.specs.Network.{drainOf}
-use Rattle.transient.specs.declared.state.DcTransientState.{DcTransientState}
-use Rattle.transient.specs.Derivatives.{derivatives}
+use Rattle.state_derivatives.specs.declared.state.DcTransientState.{DcTransientState}
+use Rattle.state_derivatives.specs.Derivatives.{derivatives}
 use Rattle.transient.specs.Rk4.{ahead, blended, rk4, raised, newState, stepBy}
 use Rattle.fault_circuit.specs.Parameters.{parametersAt}
 use Rattle.fault_circuit.specs.Circuit.{responseOf, underdampedResponse, overdampedResponse, typeFactor, circuitAt}

@@ -6,7 +6,7 @@ use lib.Ieee.{Float, nan, le}
 use Rattle.lists.proofs.Places.{over-same}
 use Rattle.lists.proofs.Scanning.{some-same}
 use Rattle.float64.specs.Arithmetic.{_⊗_, of}
-use Rattle.transient.specs.declared.state.DcTransientState.{DcTransientState}
+use Rattle.state_derivatives.specs.declared.state.DcTransientState.{DcTransientState}
 use Rattle.run_start.specs.Start.{timeAt}
 use Rattle.fault_step.specs.declared.variables.FaultVariables.{FaultVariables}
 use Rattle.fault_step.specs.Constants.{recoveredPart}

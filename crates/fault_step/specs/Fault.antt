@@ -14,7 +14,7 @@ use Rattle.timing.specs.Steps.{timeStepMs, durationMs}
 use Rattle.breaker_times.specs.Breakers.{fastestOf}
 use Rattle.network.specs.Constants.{million}
 use Rattle.network.specs.Network.{drainOf}
-use Rattle.transient.specs.declared.state.DcTransientState.{DcTransientState}
+use Rattle.state_derivatives.specs.declared.state.DcTransientState.{DcTransientState}
 use Rattle.transient.specs.OfGrid.{gridStep}
 use Rattle.run_start.specs.Start.{timeAt, rated}
 use Rattle.fault_circuit.specs.Parameters.{parametersOf}

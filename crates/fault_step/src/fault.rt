@@ -16,7 +16,7 @@ use float64::abs;
 use float64::max;
 use grid::present;
 use run_start::step_time_ms;
-use transient::DcTransientState;
+use state_derivatives::DcTransientState;
 use transient::rk4_step;
 
 // One step, numbered from 0. Its phase is tested first: before inception nothing but the time goes on.

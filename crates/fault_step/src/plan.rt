@@ -2,8 +2,8 @@
 ghost use mathlib.Core.Path.{_≡_};
 ghost use Rattle.fault_step.specs.Fault.{beforeLoop};
 ghost use Rattle.fault_step.specs.Plans.{constantsOf, planOf};
-use breaker_times::fastest_breaker_clearing_ms;
 use crate::variables::FaultVariables;
+use breaker_times::fastest_breaker_clearing_ms;
 use fault_circuit::FaultCircuit;
 use fault_circuit::fault_circuit;
 use grid::DcFaultEvent;
@@ -15,9 +15,9 @@ use network::drain_of;
 use network::network_of;
 use run_start::breakers_all;
 use run_start::rated_voltages;
+use state_derivatives::DcTransientState;
 use timing::duration_ms;
 use timing::time_step_ms;
-use transient::DcTransientState;
 
 // What stays the same in every step of a fault run, less the tables that the grid alone decides.
 pub struct FaultConstants {

@@ -12,7 +12,7 @@ use fault_circuit::FaultCircuit;
 use fault_circuit::decayed_current_ka;
 use grid::present;
 use run_start::step_time_ms;
-use transient::DcTransientState;
+use state_derivatives::DcTransientState;
 
 // The step comes before inception: the fault is neither cleared nor active.
 pub fn waits(k: FaultConstants, step: u64, v: FaultVariables) -> bool

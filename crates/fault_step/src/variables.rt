@@ -1,5 +1,5 @@
 // The variables that the loop of 000's simulate_fault changes, by value.
-use transient::DcTransientState;
+use state_derivatives::DcTransientState;
 
 pub struct FaultVariables {
     pub state: DcTransientState,

@@ -8,7 +8,7 @@ use Rattle.lists.specs.Tables.{tab}
 use Rattle.float64.specs.Constants.{nought, decimal}
 use Rattle.grid.specs.Simulator.{blankStation, blankCable, blankBreaker}
 use Rattle.grid.specs.declared.simulator.DcSwitchingSimulator.{DcSwitchingSimulator}
-use Rattle.transient.specs.declared.state.DcTransientState.{DcTransientState}
+use Rattle.state_derivatives.specs.declared.state.DcTransientState.{DcTransientState}
 use Rattle.records.specs.Records.{recordWith, recordOf}
 
 whole : ℕ → Float

@@ -10,7 +10,7 @@ use Rattle.float64.specs.Constants.{nought, one}
 use Rattle.float64.specs.Arithmetic.{of}
 use Rattle.grid.specs.Simulator.{stationsOf, cablesOf, breakersOf}
 use Rattle.grid.specs.declared.simulator.DcSwitchingSimulator.{DcSwitchingSimulator}
-use Rattle.transient.specs.declared.state.DcTransientState.{DcTransientState}
+use Rattle.state_derivatives.specs.declared.state.DcTransientState.{DcTransientState}
 use Rattle.records.specs.declared.record.RecordCounts.{RecordCounts}
 
 abbrev pub closedNumber : Bool → Float

@@ -10,7 +10,7 @@ ghost use Rattle.float64.specs.Arithmetic.{of};
 ghost use Rattle.records.specs.Records.{closedNumber, Counted, countsOf, numbersIn, recordBy, fitsIn, puts};
 use grid::DcSwitchingSimulator;
 use grid::present;
-use transient::DcTransientState;
+use state_derivatives::DcTransientState;
 
 // How many of each a record has.
 pub struct RecordCounts {

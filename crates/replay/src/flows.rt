@@ -1,7 +1,6 @@
 // Jobs 1, 2 and 3: a flow and the operating points of a converter. The answer is a refusal, 0 for what is accepted, and then the
 // result.
 ghost use Prim.Native.Nat.{_≤_};
-use converter::ConverterOperatingPoint;
 use crate::After;
 use crate::grids;
 use crate::grids::StationRead;
@@ -9,6 +8,7 @@ use crate::numbers;
 use crate::numbers::Cursor;
 use crate::numbers::ROOM;
 use crate::numbers::Taken;
+use converter::ConverterOperatingPoint;
 use operating_points::PointAnswer;
 use power_flow::DcGridSolution;
 

@@ -18,7 +18,6 @@ use portions::Stop;
 use runs::DcTransientResult;
 use switching_runs::SwitchingRun;
 use switching_step::SwitchingVariables;
-use transient::DcTransientState;
 
 // The most numbers of lent memory.
 const MOST: usize = 4096;

@@ -9,7 +9,7 @@ use crate::numbers::Skipped;
 use crate::numbers::Taken;
 use detection::detect_fault;
 use grid::DcSwitchingSimulator;
-use transient::DcTransientState;
+use state_derivatives::DcTransientState;
 
 // A state, and the cursor past it. An enum cannot hold an array, so that the reading has ended is a field of its own; the state
 // then means nothing.

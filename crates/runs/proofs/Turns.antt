@@ -20,7 +20,7 @@ use Rattle.timing.specs.Claims.{Steps}
 use Rattle.timing.proofs.Claims.{step-claims}
 use Rattle.rules.specs.Claims.{Sizes}
 use Rattle.portions.specs.Stopping.{Stepper, joined, reasonOf}
-use Rattle.transient.specs.declared.state.DcTransientState.{DcTransientState}
+use Rattle.state_derivatives.specs.declared.state.DcTransientState.{DcTransientState}
 use Rattle.records.specs.declared.record.RecordCounts.{RecordCounts}
 use Rattle.records.specs.Records.{closedNumber, recordWith, recordOf, countsOf, numbersIn, Counted, puts}
 use Rattle.records.proofs.Fitting.{puts-is}

@@ -5,7 +5,7 @@ use Rattle.lists.specs.Tables.{blank}
 use Rattle.float64.specs.Constants.{nought}
 use Rattle.grid.specs.Simulator.{blankStation, blankCable, blankBreaker}
 use Rattle.grid.specs.declared.simulator.DcSwitchingSimulator.{DcSwitchingSimulator}
-use Rattle.transient.specs.declared.state.DcTransientState.{DcTransientState}
+use Rattle.state_derivatives.specs.declared.state.DcTransientState.{DcTransientState}
 
 abbrev pub blankGrid : DcSwitchingSimulator
 blankGrid =

@@ -13,7 +13,7 @@ use Rattle.portions.specs.declared.Stop.the-variants.{Finished, Refused}
 use Rattle.portions.specs.Stopping.{Stepper, joined}
 use Rattle.portions.specs.Tally.{runTally}
 use Rattle.portions.specs.Calls.{Called, Made, last, reported, and, handed, seen}
-use Rattle.transient.specs.declared.state.DcTransientState.{DcTransientState}
+use Rattle.state_derivatives.specs.declared.state.DcTransientState.{DcTransientState}
 use Rattle.records.specs.Records.{recordOf}
 use Rattle.runs.specs.declared.result.DcTransientResult.{DcTransientResult}
 

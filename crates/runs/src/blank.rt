@@ -2,7 +2,7 @@
 ghost use mathlib.Core.Path.{_≡_};
 ghost use Rattle.runs.specs.Blank.{blankGrid, blankState};
 use grid::DcSwitchingSimulator;
-use transient::DcTransientState;
+use state_derivatives::DcTransientState;
 
 // `new` raises both times.
 pub fn blank_grid() -> DcSwitchingSimulator

@@ -1,6 +1,6 @@
 // The fastest breaker in a loop.
-use breaker_times::fastest_breaker_clearing_ms;
 use crate::samples::sample_grid;
+use breaker_times::fastest_breaker_clearing_ms;
 use grid::DcBreaker;
 use grid::DcBreakerType;
 

@@ -9,7 +9,7 @@ use grid::DcFaultType;
 use grid::present;
 use network::drain_of;
 use network::network_of;
-use transient::DcTransientState;
+use state_derivatives::DcTransientState;
 use transient::rk4_step;
 
 // Makes `count` steps of a microsecond, each from the state that the one before it led to, with a fault on the first cable. Adds up

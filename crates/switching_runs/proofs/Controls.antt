@@ -18,7 +18,7 @@ use Rattle.part_checks.specs.PartChecks.{topologyOk, stationOk, cableOk, breake
 use Rattle.rules.specs.Studies.{first, broken, tooManyParts, timeOutside, tooManySteps, stationOutside, cableOutside, breakerOutside, switchingRefusal}
 use Rattle.portions.specs.Stopping.{joined, advance, answerOf, memoryOf}
 use Rattle.network.specs.Capacitance.{ownCapacitance, joinedCapacitance}
-use Rattle.transient.specs.Derivatives.{derivatives}
+use Rattle.state_derivatives.specs.Derivatives.{derivatives}
 use Rattle.transient.specs.Rk4.{ahead, blended, rk4, raised, newState, stepBy}
 use Rattle.switching_step.specs.Switching.{operatedState, switchBody, switchingBody, beforeSwitching, switchingAfter}
 use Rattle.records.specs.Records.{recordWith}

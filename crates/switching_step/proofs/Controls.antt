@@ -10,7 +10,7 @@ use Rattle.lists.specs.Tables.{tab, blank, over, padded}
 use Rattle.float64.specs.Constants.{nought, decimal}
 use Rattle.float64.specs.Choice.{maxOf}
 use Rattle.network.specs.Capacitance.{ownCapacitance, joinedCapacitance}
-use Rattle.transient.specs.Derivatives.{derivatives}
+use Rattle.state_derivatives.specs.Derivatives.{derivatives}
 use Rattle.transient.specs.Rk4.{ahead, blended, rk4, raised, newState, stepBy}
 use Rattle.run_start.proofs.Samples.{double, state, stepped, station, cable, breaker, two}
 use Rattle.switching_step.specs.declared.variables.SwitchingVariables.{SwitchingVariables}

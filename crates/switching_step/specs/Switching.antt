@@ -15,7 +15,7 @@ use Rattle.grid.specs.declared.parts.DcCable.{DcCable}
 use Rattle.grid.specs.declared.simulator.DcSwitchingSimulator.{DcSwitchingSimulator}
 use Rattle.timing.specs.Steps.{timeStepMs, durationMs}
 use Rattle.network.specs.Network.{noDrain, stationCount, cableCount}
-use Rattle.transient.specs.declared.state.DcTransientState.{DcTransientState}
+use Rattle.state_derivatives.specs.declared.state.DcTransientState.{DcTransientState}
 use Rattle.transient.specs.OfGrid.{gridStep}
 use Rattle.switching_step.specs.declared.variables.SwitchingVariables.{SwitchingVariables}
 use Rattle.switching_step.specs.Constants.{switchingPart}

@@ -17,9 +17,9 @@ use network::Network;
 use network::network_of;
 use run_start::breakers_all;
 use run_start::rated_voltages;
+use state_derivatives::DcTransientState;
 use timing::duration_ms;
 use timing::time_step_ms;
-use transient::DcTransientState;
 
 // All that stays the same in every step of a switching run, worked out once.
 pub struct SwitchingPlan {

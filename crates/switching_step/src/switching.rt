@@ -10,7 +10,7 @@ use crate::variables::SwitchingVariables;
 use grid::present;
 use network::no_drain;
 use run_start::step_time_ms;
-use transient::DcTransientState;
+use state_derivatives::DcTransientState;
 use transient::rk4_step;
 
 // One step, numbered from 0.

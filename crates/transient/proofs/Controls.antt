@@ -15,10 +15,10 @@ use Rattle.grid.specs.declared.parts.DcCable.{DcCable}
 use Rattle.grid.specs.declared.parts.DcFaultEvent.{DcFaultEvent}
 use Rattle.grid.specs.declared.simulator.DcSwitchingSimulator.{DcSwitchingSimulator}
 use Rattle.network.specs.declared.network.Drain.{Drain}
-use Rattle.transient.specs.declared.state.DcTransientState.{DcTransientState}
+use Rattle.state_derivatives.specs.declared.state.DcTransientState.{DcTransientState}
 use Rattle.network.specs.Capacitance.{ownCapacitance, joinedCapacitance, capacitanceAt}
 use Rattle.network.specs.Network.{networkOf, noDrain, drainOf}
-use Rattle.transient.specs.Derivatives.{drainCurrent, derivatives}
+use Rattle.state_derivatives.specs.Derivatives.{derivatives}
 use Rattle.transient.specs.Rk4.{ahead, blended, rk4, raised, newState, stepBy, rk4Step}
 
 double : ℕ → Float
@@ -98,8 +98,3 @@ capacitances-are
     × (capacitanceAt (cable 0 1 3 ∷ []) (station (Mmc 2) 2 100 50 6) ≡ decimal 2 1)
 unfolding station cable ownCapacitance joinedCapacitance maxOf isNan lt eq ofBits ofInt round neg add sub mul div
 capacitances-are = (refl, refl, refl, refl)
-
--- what a fault of 9.7 Ω at 0.8 of its cable drains at 344 kV, in the published order: another order of the four operations gives another double
-drained-is : drainCurrent (record { from = 0; to = 1; resistance = double 0x40c2f20000000000; fraction = double 0x3fe999999999999a }) (double 0x4075800000000000) ≡ double 0x403c5f02a3a0fd5d
-unfolding double ofBits round mul div
-drained-is = refl

@@ -11,8 +11,9 @@ use denote.Triple.Clauses.{AtExit}
 use Rattle.float64.specs.Constants.{nought}
 use Rattle.float64.specs.Arithmetic.{of}
 use Rattle.network.specs.declared.network.Drain.{Drain}
-use Rattle.transient.specs.declared.state.DcTransientState.{DcTransientState}
-use Rattle.transient.specs.Rk4.{stationsIn, cablesIn, slopes, rk4Step}
+use Rattle.state_derivatives.specs.declared.state.DcTransientState.{DcTransientState}
+use Rattle.state_derivatives.specs.Derivatives.{stationsIn, cablesIn, slopes}
+use Rattle.transient.specs.Rk4.{rk4Step}
 use Rattle.transient.specs.OfGrid.{gridStep}
 use Rattle.transient.specs.Claims.{classicalAt}
 use Rattle.float64.specs.Choice.{maxOf}

@@ -10,16 +10,15 @@ use Rattle.float64.specs.Choice.{maxOf}
 use Rattle.grid.specs.declared.simulator.DcSwitchingSimulator.{DcSwitchingSimulator}
 use Rattle.network.specs.declared.network.Network.{Network}
 use Rattle.network.specs.declared.network.Drain.{Drain}
-use Rattle.transient.specs.declared.state.DcTransientState.{DcTransientState}
+use Rattle.state_derivatives.specs.declared.state.DcTransientState.{DcTransientState}
 use Rattle.network.specs.Constants.{six}
 use Rattle.network.specs.Network.{networkOf, noDrain}
-use Rattle.transient.specs.Derivatives.{drainCurrent, drained}
-use Rattle.transient.specs.Rk4.{ahead, rk4, stationsIn, cablesIn, slopes, rk4Step}
-use Rattle.transient.specs.OfGrid.{gridDerivatives, gridStep}
+use Rattle.state_derivatives.specs.Derivatives.{stationsIn, cablesIn, slopes}
+use Rattle.transient.specs.Rk4.{ahead, rk4, rk4Step}
+use Rattle.transient.specs.OfGrid.{gridStep}
 
--- what is worked out once for a grid changes no rate and no step
+-- what is worked out once for a grid changes no step
 pub record NetworkClaims : Type 0 where
-  pub rates : (g : DcSwitchingSimulator) (d : Drain) (y : List Float) → g .«n_stations» ≤ 32 → g .«n_cables» ≤ 64 → slopes (networkOf g) d y ≡ gridDerivatives g d y
   pub step : (g : DcSwitchingSimulator) (d : Drain) (s : DcTransientState) (dt : Float) → g .«n_stations» ≤ 32 → g .«n_cables» ≤ 64 → rk4Step (networkOf g) d s dt ≡ gridStep g d s dt
 
 -- "Classical RK4, 1/6 (k1+2k2+2k3+k4)": number i of y + dt/6·(k1 + 2·k2 + 2·k3 + k4), whatever the rates f; k1 at the start, k2 and k3 half a step on, k4 a whole step on
@@ -44,11 +43,3 @@ pub record StepClaims : Type 0 where
       of (rk4Step w d s dt .y) (n + k) ≡ classicalAt (n + cablesIn w) (slopes w d) dt (s .y) (n + k)
   -- what stands past the counts is zero
   pub past : (w : Network) (d : Drain) (s : DcTransientState) (dt : Float) (i : ℕ) → stationsIn w + cablesIn w ≤ i → i < 96 → of (rk4Step w d s dt .y) i ≡ nought
-
--- "The drain applies to both ends of the faulted cable, scaled by the fraction", and to no other station
-pub record DrainClaims : Type 0 where
-  pub first-end : (d : Drain) (y : List Float) (s : Float) → drained d y (d .from) s ≡ s ⊖ drainCurrent d (of y (d .from))
-  pub second-end : (d : Drain) (y : List Float) (s : Float) → drained d y (d .to) s ≡ s ⊖ drainCurrent d (of y (d .to))
-  pub elsewhere : (d : Drain) (y : List Float) (i : ℕ) (s : Float) → (d .from ≡ i → ⊥) → (d .to ≡ i → ⊥) → drained d y i s ≡ s
-  -- without a fault none
-  pub without : (y : List Float) (i : ℕ) (s : Float) → i < 32 → drained noDrain y i s ≡ s

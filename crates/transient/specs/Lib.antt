@@ -1,4 +1,3 @@
-pub mod Derivatives
 pub mod Rk4
 pub mod OfGrid
 pub mod Claims

@@ -10,10 +10,10 @@ use Rattle.float64.specs.Arithmetic.{_⊕_, _⊗_, _⊘_, of}
 use Rattle.float64.specs.Choice.{maxOf}
 use Rattle.network.specs.declared.network.Network.{Network}
 use Rattle.network.specs.declared.network.Drain.{Drain}
-use Rattle.transient.specs.declared.state.DcTransientState.{DcTransientState}
+use Rattle.state_derivatives.specs.declared.state.DcTransientState.{DcTransientState}
 use Rattle.network.specs.Constants.{six}
-use Rattle.network.specs.Network.{stationCount, cableCount, end}
-use Rattle.transient.specs.Derivatives.{net, derivatives}
+use Rattle.network.specs.Network.{end}
+use Rattle.state_derivatives.specs.Derivatives.{net, stationsIn, cablesIn, slopes}
 
 -- y + h·k, of a state of `size` numbers
 unfoldable pub ahead : ℕ → List Float → Float → List Float → List Float
@@ -60,16 +60,6 @@ module _ (n m : ℕ) where
         «breaker_states» = s .«breaker_states»;
       }
 
-module _ (w : Network) where
-  abbrev pub stationsIn : ℕ
-  stationsIn = stationCount (w .«n_stations»)
-
-  abbrev pub cablesIn : ℕ
-  cablesIn = cableCount (w .«n_cables»)
-
-  -- dy/dt
-  abbrev pub slopes : Drain → List Float → List Float
-  slopes d = derivatives (end (w .from)) (end (w .to)) (of (w .«resistance_ohm»)) (of (w .«inductance_h»)) (of (w .«capacitance_f»)) d stationsIn cablesIn
-
-  abbrev pub rk4Step : Drain → DcTransientState → Float → DcTransientState
-  rk4Step d s dt = stepBy stationsIn cablesIn (end (w .from)) (end (w .to)) (slopes d) s dt
+-- with the tables of a network, and what a fault drains
+abbrev pub rk4Step : Network → Drain → DcTransientState → Float → DcTransientState
+rk4Step w d s dt = stepBy (stationsIn w) (cablesIn w) (end (w .from)) (end (w .to)) (slopes w d) s dt

@@ -1,7 +1,4 @@
-// The state of a grid over time: how fast voltages and currents change, and one step of classical Runge-Kutta.
-mod derivatives;
+// The state of a grid over time: one step of classical Runge-Kutta.
 mod rk4;
-mod state;
 
 pub use rk4::rk4_step;
-pub use state::DcTransientState;

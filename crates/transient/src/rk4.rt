@@ -6,19 +6,19 @@ ghost use Rattle.lists.specs.Tables.{over};
 ghost use Rattle.float64.specs.Constants.{nought};
 ghost use Rattle.float64.specs.Arithmetic.{of};
 ghost use Rattle.float64.specs.Choice.{maxOf};
-ghost use Rattle.network.specs.Network.{end};
-ghost use Rattle.transient.specs.Derivatives.{derivatives};
+ghost use Rattle.network.specs.Network.{stationCount, cableCount, end};
+ghost use Rattle.state_derivatives.specs.Derivatives.{derivatives};
 ghost use Rattle.transient.specs.Rk4.{ahead, blended, weighted, rk4Step};
-use crate::derivatives::StageSetting;
-use crate::derivatives::net_currents;
-use crate::derivatives::state_derivatives;
-use crate::state::DcTransientState;
-use crate::state::StageSlopes;
-use crate::state::StageState;
 use float64::max;
 use grid::present;
 use network::Drain;
 use network::Network;
+use state_derivatives::DcTransientState;
+use state_derivatives::StageSetting;
+use state_derivatives::StageSlopes;
+use state_derivatives::StageState;
+use state_derivatives::net_currents;
+use state_derivatives::state_derivatives;
 
 // A stage ahead of the start: so many seconds on.
 struct Stage {
@@ -48,9 +48,13 @@ pub fn rk4_step(
     let r = network.resistance_ohm;
     let l = network.inductance_h;
     let c = network.capacitance_f;
-    let n = present(network.n_stations, 32);
-    let m = present(network.n_cables, 64);
-    let setting = StageSetting { n, m, drain };
+    let n_stations = network.n_stations;
+    let n_cables = network.n_cables;
+    let setting = StageSetting {
+        n: n_stations,
+        m: n_cables,
+        drain,
+    };
     let half_on = Stage {
         setting,
         ahead_s: 0.5 * dt_s,
@@ -65,18 +69,16 @@ pub fn rk4_step(
     let k2 = slopes_ahead(&from, &to, &r, &l, &c, half_on, start, k1);
     let k3 = slopes_ahead(&from, &to, &r, &l, &c, half_on, start, k2);
     let k4 = slopes_ahead(&from, &to, &r, &l, &c, whole_on, start, k3);
+    let n = present(n_stations, 32);
+    let m = present(n_cables, 64);
     let moved = blend(start, dt_s / 6.0, k1, k2, k3, k4, n + m);
     let raised = raise_voltages(moved, n);
     let y = raised.y;
-    let breaker_states = state.breaker_states;
-    let mut currents = [0.0; 32];
-    net_currents(&mut currents, &from, &to, &y, n, m);
+    let currents = net_currents(&from, &to, raised, n_stations, n_cables);
     DcTransientState {
-        time_ms: state.time_ms,
         y,
         station_currents_ka: currents,
-        fault_current_ka: state.fault_current_ka,
-        breaker_states,
+        ..state
     }
 }
 
@@ -91,11 +93,11 @@ fn slopes_ahead(
     start: StageState,
     k: StageSlopes,
 ) -> StageSlopes
-    requires { ⌜ (stage .setting .n ≤ 32) × (stage .setting .m ≤ 64) ⌝ }
-    ensures { λ s. ⌜ s .dy ≡ derivatives (end (now (from .entry))) (end (now (to .entry))) (of (now (r .entry))) (of (now (l .entry))) (of (now (c .entry))) (stage .setting .drain) (stage .setting .n) (stage .setting .m) (ahead (stage .setting .n + stage .setting .m) (start .y) (stage .«ahead_s») (k .dy)) ⌝ }
+    ensures { λ s. ⌜ s .dy ≡ derivatives (end (now (from .entry))) (end (now (to .entry))) (of (now (r .entry))) (of (now (l .entry))) (of (now (c .entry))) (stage .setting .drain) (stationCount (stage .setting .n)) (cableCount (stage .setting .m)) (ahead (stationCount (stage .setting .n) + cableCount (stage .setting .m)) (start .y) (stage .«ahead_s») (k .dy)) ⌝ }
 {
     let setting = stage.setting;
-    let there = move_along(start, stage.ahead_s, k, setting.n + setting.m);
+    let size = present(setting.n, 32) + present(setting.m, 64);
+    let there = move_along(start, stage.ahead_s, k, size);
     state_derivatives(from, to, r, l, c, setting, there)
 }
 

@@ -9,7 +9,9 @@ use Rattle.lists.specs.Tables.{padded}
 use Rattle.float64.specs.Constants.{nought, kilo}
 use Rattle.float64.specs.Arithmetic.{_⊕_, _⊖_, _⊗_, _⊘_, of}
 use Rattle.grid.specs.Cables.{cut}
+use Rattle.network.specs.declared.network.Network.{Network}
 use Rattle.network.specs.declared.network.Drain.{Drain}
+use Rattle.network.specs.Network.{stationCount, cableCount, end}
 
 -- What a cable's current x makes of the sum s at station i: it comes in at the cable's second end, else it goes out at its first.
 abbrev pub passed : ℕ → ℕ → Float → ℕ → Float → Float
@@ -43,3 +45,14 @@ module _ (from to : ℕ → ℕ) (r l c : ℕ → Float) (d : Drain) (n m : ℕ)
 
   unfoldable pub derivatives : List Float
   derivatives = padded 96 (n + m) derivative nought
+
+module _ (w : Network) where
+  abbrev pub stationsIn : ℕ
+  stationsIn = stationCount (w .«n_stations»)
+
+  abbrev pub cablesIn : ℕ
+  cablesIn = cableCount (w .«n_cables»)
+
+  -- dy/dt
+  abbrev pub slopes : Drain → List Float → List Float
+  slopes d = derivatives (end (w .from)) (end (w .to)) (of (w .«resistance_ohm»)) (of (w .«inductance_h»)) (of (w .«capacitance_f»)) d stationsIn cablesIn

@@ -8,8 +8,8 @@ use native.Mathlib.Omega.{arith}
 use Prim.Native.Nat.{_-_, _≤_}
 use mathlib.Core.Path.{_≡_, _∙_}
 use borrow.Author.Needs.{needs}
-use Rattle.transient.proofs.derivatives.station_rates.Statement.{statement}
-use Rattle.transient.proofs.derivatives.station_rates.Tie as tie
+use Rattle.state_derivatives.proofs.derivatives.station_rates.Statement.{statement}
+use Rattle.state_derivatives.proofs.derivatives.station_rates.Tie as tie
 
 abbrev Inv-loop : tie.InvT-loop
 Inv-loop dy₀ nets c n i₀ dy i = (i ≤ n) × (dy ≡ upto i (λ k. of nets k ⊘ of c k) (blank 96 nought))

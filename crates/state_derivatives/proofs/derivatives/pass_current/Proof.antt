@@ -6,8 +6,8 @@ use Prim.Native.Nat.{ℕ}
 use mathlib.Core.Logic.{⊎-elim}
 use mathlib.Core.Path.{_≡_, sym, _∙_}
 use borrow.Author.Needs.{needs}
-use Rattle.transient.proofs.derivatives.pass_current.Statement.{statement}
-use Rattle.transient.proofs.derivatives.pass_current.Tie as tie
+use Rattle.state_derivatives.proofs.derivatives.pass_current.Statement.{statement}
+use Rattle.state_derivatives.proofs.derivatives.pass_current.Tie as tie
 
 abbrev come : Float → ℕ → Float → Float
 come x i s = s ⊕ x

@@ -7,11 +7,12 @@ ghost use lib.Ieee.{nan};
 ghost use Rattle.lists.specs.Tables.{blank, over, padded};
 ghost use Rattle.float64.specs.Constants.{nought};
 ghost use Rattle.float64.specs.Arithmetic.{of, _⊖_, _⊗_, _⊘_};
-ghost use Rattle.network.specs.Network.{end};
-ghost use Rattle.transient.specs.Derivatives.{passed, net, drainCurrent, drained, cableRate, derivatives};
+ghost use Rattle.network.specs.Network.{stationCount, cableCount, end};
+ghost use Rattle.state_derivatives.specs.Derivatives.{passed, net, drainCurrent, drained, cableRate, derivatives};
 use crate::state::StageSlopes;
 use crate::state::StageState;
 use grid::cut_end;
+use grid::present;
 use network::Drain;
 
 // A cable in a stage.
@@ -36,7 +37,7 @@ pub struct StageSetting {
     pub drain: Drain,
 }
 
-// DcSwitchingSimulator::state_derivatives
+// DcSwitchingSimulator::state_derivatives. A count past the tables takes all of them.
 pub fn state_derivatives(
     from: &[usize; 64],
     to: &[usize; 64],
@@ -46,14 +47,13 @@ pub fn state_derivatives(
     setting: StageSetting,
     state: StageState,
 ) -> StageSlopes
-    requires { ⌜ (setting .n ≤ 32) × (setting .m ≤ 64) ⌝ }
-    ensures { λ k. ⌜ k .dy ≡ derivatives (end (now (from .entry))) (end (now (to .entry))) (of (now (r .entry))) (of (now (l .entry))) (of (now (c .entry))) (setting .drain) (setting .n) (setting .m) (state .y) ⌝ }
+    ensures { λ k. ⌜ k .dy ≡ derivatives (end (now (from .entry))) (end (now (to .entry))) (of (now (r .entry))) (of (now (l .entry))) (of (now (c .entry))) (setting .drain) (stationCount (setting .n)) (cableCount (setting .m)) (state .y) ⌝ }
 {
-    let n = setting.n;
-    let m = setting.m;
+    let n = present(setting.n, 32);
+    let m = present(setting.m, 64);
     let y = state.y;
     let mut nets = [0.0; 32];
-    net_currents(&mut nets, from, to, &y, n, m);
+    add_currents(&mut nets, from, to, &y, n, m);
     drain_ends(&mut nets, setting.drain, &y, n);
     let mut dy = [0.0; 96];
     station_rates(&mut dy, &nets, c, n);
@@ -61,9 +61,27 @@ pub fn state_derivatives(
     StageSlopes { dy }
 }
 
+// The current into each station. A count past the tables takes all of them.
+pub fn net_currents(
+    from: &[usize; 64],
+    to: &[usize; 64],
+    state: StageState,
+    n_stations: usize,
+    n_cables: usize,
+) -> [f64; 32]
+    ensures { λ r. ⌜ r ≡ padded 32 (stationCount «n_stations») (net (end (now (from .entry))) (end (now (to .entry))) (stationCount «n_stations») (state .y) (cableCount «n_cables»)) nought ⌝ }
+{
+    let n = present(n_stations, 32);
+    let m = present(n_cables, 64);
+    let y = state.y;
+    let mut nets = [0.0; 32];
+    add_currents(&mut nets, from, to, &y, n, m);
+    nets
+}
+
 // The current into each station, into zeros. One pass over the cables: to each station's sum they are added in their order, as if the
 // cables were gone through for each station.
-pub fn net_currents(
+fn add_currents(
     nets: &mut [f64; 32],
     from: &[usize; 64],
     to: &[usize; 64],

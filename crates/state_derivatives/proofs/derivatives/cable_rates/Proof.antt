@@ -1,11 +1,11 @@
 -- `cable_rates` meets its contract. Assumes nothing.
 use Rattle.network.specs.Network.{end}
 use Prim.Native.Nat.{_<_, ℕ, _-_, _+_, _≤_}
-use Rattle.transient.proofs.Stages.{after}
+use Rattle.state_derivatives.proofs.Stages.{after}
 use lib.Ieee.{Float, nan}
 use native.Mathlib.Nat.{add-assoc}
 use borrow.Author.Tests.{lt-ltb}
-use Rattle.transient.specs.Derivatives.{cableRate}
+use Rattle.state_derivatives.specs.Derivatives.{cableRate}
 use Rattle.float64.specs.Arithmetic.{of}
 use Rattle.lists.proofs.Fills.{upto, upto-kept, upto-more, upto-over}
 use Rattle.lists.proofs.Counting.{at-end}
@@ -13,8 +13,8 @@ use lib.Dec.{ltb}
 use native.Mathlib.Omega.{arith}
 use mathlib.Core.Bool.{cond}
 use mathlib.Core.Path.{_≡_, _∙_}
-use Rattle.transient.proofs.derivatives.cable_rates.Statement.{statement}
-use Rattle.transient.proofs.derivatives.cable_rates.Tie as tie
+use Rattle.state_derivatives.proofs.derivatives.cable_rates.Statement.{statement}
+use Rattle.state_derivatives.proofs.derivatives.cable_rates.Tie as tie
 
 abbrev Inv-loop : tie.InvT-loop
 Inv-loop dy₀ from to r l y n m k₀ dy k = (k ≤ m) × (dy ≡ upto (n + k) (λ i. cond (ltb i n) (of dy₀ i) (cableRate (end from) (end to) (of r) (of l) n y (i - n))) dy₀)

@@ -1,7 +1,7 @@
--- `net_currents` meets its contract. Assumes nothing.
+-- `add_currents` meets its contract. Assumes nothing.
 use Rattle.network.specs.Network.{end}
-use Rattle.transient.proofs.Stages.{nets, nets-none, nets-more}
-use Rattle.transient.specs.Derivatives.{net}
+use Rattle.state_derivatives.proofs.Stages.{nets, nets-none, nets-more}
+use Rattle.state_derivatives.specs.Derivatives.{net}
 use Rattle.float64.specs.Constants.{nought}
 use Rattle.lists.proofs.Counting.{at-end}
 use Rattle.lists.specs.Tables.{padded}
@@ -9,8 +9,8 @@ use native.Mathlib.Omega.{arith}
 use Prim.Native.Nat.{_-_, _≤_}
 use mathlib.Core.Path.{_≡_, _∙_}
 use borrow.Author.Needs.{needs}
-use Rattle.transient.proofs.derivatives.net_currents.Statement.{statement}
-use Rattle.transient.proofs.derivatives.net_currents.Tie as tie
+use Rattle.state_derivatives.proofs.derivatives.add_currents.Statement.{statement}
+use Rattle.state_derivatives.proofs.derivatives.add_currents.Tie as tie
 
 abbrev Inv-loop : tie.InvT-loop
 Inv-loop nets₀ from to y n m k₀ nets k = (k ≤ m) × (nets ≡ padded 32 n (net (end from) (end to) n y k) nought)
@@ -64,8 +64,8 @@ returns c =
     let a = c .before .before .args in
     at-end (nets (end (a .from .now)) (end (a .to .now)) (a .n) (a .y .now)) (c .before .loop .inv .0) (c .loop-test .left) (c .before .loop .inv .1)
 
-pub net-currents-spec : {M : Type 1} → statement M
-net-currents-spec =
+pub add-currents-spec : {M : Type 1} → statement M
+add-currents-spec =
     tie.close
     (tie.spec
     Inv-loop

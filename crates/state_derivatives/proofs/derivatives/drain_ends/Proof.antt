@@ -1,5 +1,5 @@
 -- `drain_ends` meets its contract. Assumes nothing.
-use Rattle.transient.proofs.Ends.{less, drained-at}
+use Rattle.state_derivatives.proofs.Ends.{less, drained-at}
 use Rattle.float64.specs.Arithmetic.{_⊖_, of}
 use Rattle.lists.proofs.Places.{once, once-stored, once-past, twice-stored, twice-past, twice-joined}
 use lib.ListN.{set}
@@ -7,8 +7,8 @@ use lib.Ieee.{nan}
 use mathlib.Core.Logic.{⊎-elim}
 use mathlib.Core.Path.{_≡_, sym, ap, _∙_}
 use borrow.Author.Needs.{needs}
-use Rattle.transient.proofs.derivatives.drain_ends.Statement.{statement}
-use Rattle.transient.proofs.derivatives.drain_ends.Tie as tie
+use Rattle.state_derivatives.proofs.derivatives.drain_ends.Statement.{statement}
+use Rattle.state_derivatives.proofs.derivatives.drain_ends.Tie as tie
 
 -- at the cable's first end
 first : (j : tie.Joined1) → let a = j .before .args in j .if1 .nets ≡ once (a .n) nan (less (a .n) (a .drain) (a .y .now)) (a .drain .from) (a .nets .now)

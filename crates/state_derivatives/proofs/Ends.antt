@@ -9,7 +9,7 @@ use Rattle.lists.specs.Tables.{over}
 use Rattle.lists.proofs.Places.{over-same, twice}
 use Rattle.float64.specs.Arithmetic.{_⊖_, of}
 use Rattle.network.specs.declared.network.Drain.{Drain}
-use Rattle.transient.specs.Derivatives.{drainCurrent, drained}
+use Rattle.state_derivatives.specs.Derivatives.{drainCurrent, drained}
 
 either : (p q : Bool) (x s : Float) → cond p x (cond q x s) ≡ cond (p || q) x s
 either true q x s = refl

@@ -1,0 +1,6 @@
+pub mod Ends
+pub mod Stages
+pub mod Tables
+pub mod Claims
+pub mod Tied
+mod Controls
