@@ -9,6 +9,7 @@ use Rattle.grid.specs.declared.parts.DcFaultEvent.{DcFaultEvent}
 use Rattle.grid.specs.declared.simulator.DcSwitchingSimulator.{DcSwitchingSimulator}
 use Rattle.timing.specs.Steps.{stepsOf}
 use Rattle.rules.specs.Studies.{faultRefusal}
+use Rattle.rules.proofs.Claims.{accepted-claims}
 use Rattle.rules.proofs.Sizes.{size-claims}
 use Rattle.portions.specs.declared.Stop.{Stop}
 use Rattle.portions.specs.Stopping.{memoryOf}
@@ -20,7 +21,7 @@ use Rattle.fault_step.specs.Plans.{planOf, planStep}
 use Rattle.fault_step.specs.Quiet.{waitsBy, restsBy, quietStep}
 use Rattle.fault_step.proofs.Claims.{plan-claims}
 use Rattle.records.specs.Records.{recordOf}
-use Rattle.runs.proofs.Turns.{Stage, Kind}
+use Rattle.runs.proofs.Turns.{Stage, Kind, Ready}
 use Rattle.runs.proofs.Refusals.{unbroken}
 use Rattle.fault_runs.specs.declared.fault_run.FaultRun.{FaultRun}
 use Rattle.fault_runs.specs.declared.fault_run.AdvancedFaultRun.{AdvancedFaultRun}
@@ -47,11 +48,11 @@ module _ (s : FaultRun) (h : faultRunRefused s ≡ false) where
   unfolding faultRunRefused
   both = unbroken (faultRefusal (s .grid) (s .fault)) (stepsOf (s .grid)) (s .«steps_made») h
 
-  pub accepted : faultRefusal (s .grid) (s .fault) ≡ 0
+  accepted : faultRefusal (s .grid) (s .fault) ≡ 0
   accepted = both .0
 
-  pub not-past : s .«steps_made» ≤ stepsOf (s .grid)
-  not-past = both .1
+  pub ready : Ready (faultKind (s .grid) (s .fault)) (s .variables) (s .«steps_made»)
+  ready = record { steps = accepted-claims .fault (s .grid) (s .fault) accepted; sizes = size-claims .fault (s .grid) (s .fault) accepted; taken = h; not-past = both .1 }
 
   -- a step by the plan is the body
   pub by-plan : (p : FaultPlan) → p ≡ planOf (s .grid) (s .fault) → (j : ℕ) (w : FaultVariables) → planStep p j w ≡ faultBody (s .grid) (s .fault) j w

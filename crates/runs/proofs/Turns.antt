@@ -150,13 +150,20 @@ module _ {m : Stepper Float} {g : DcSwitchingSimulator} {Vars : Type 0} (k : Kin
     pub going : Going m (run made₀ v₀) allowance lent₀ (run made v) lent steps out
     pub made-ok : made ≤ n
 
+  -- a run that can be advanced: its grid is accepted, and it is not past its last step
+  pub record Ready (v₀ : Vars) (made₀ : ℕ) : Type 0 where
+    pub steps : Steps (stepsOf g)
+    pub sizes : Sizes g
+    pub taken : m .refused (run made₀ v₀) ≡ false
+    pub not-past : made₀ ≤ stepsOf g
+
   -- before the first turn
-  pub inside : (allowance : ℕ) (lent₀ : List Float) (n size : ℕ) (counts : RecordCounts) (step : ℕ → Vars → Vars) (v₀ : Vars) (made₀ : ℕ) → Steps (stepsOf g) → Sizes g
-      → m .refused (run made₀ v₀) ≡ false → made₀ ≤ stepsOf g → n ≡ countedTo (stepsOf g) → size ≡ recordLength g → counts ≡ countsOf g → ((j : ℕ) (w : Vars) → step j w ≡ body j w)
+  pub inside : (allowance : ℕ) (lent₀ : List Float) (n size : ℕ) (counts : RecordCounts) (step : ℕ → Vars → Vars) (v₀ : Vars) (made₀ : ℕ) → Ready v₀ made₀
+      → n ≡ countedTo (stepsOf g) → size ≡ recordLength g → counts ≡ countsOf g → ((j : ℕ) (w : Vars) → step j w ≡ body j w)
       → Inside allowance lent₀ n size (length lent₀ / size) counts step v₀ made₀ lent₀ v₀ made₀ 0 0
-  inside allowance lent₀ n size counts step v₀ made₀ steps sizes h few is-n is-size is-counts is-step =
-      let fixed = sized g lent₀ n size counts steps sizes is-n is-size is-counts in
-      record { fixed = fixed; step-is = is-step; going = going-start m (run made₀ v₀) allowance lent₀ h; made-ok = rw (fixed .n-is) few }
+  inside allowance lent₀ n size counts step v₀ made₀ ready is-n is-size is-counts is-step =
+      let fixed = sized g lent₀ n size counts (ready .steps) (ready .sizes) is-n is-size is-counts in
+      record { fixed = fixed; step-is = is-step; going = going-start m (run made₀ v₀) allowance lent₀ (ready .taken); made-ok = rw (fixed .n-is) (ready .not-past) }
 
   module _ {allowance : ℕ} {lent₀ : List Float} {n size space : ℕ} {counts : RecordCounts} {step : ℕ → Vars → Vars} {v₀ : Vars} {made₀ : ℕ} {lent : List Float} {v : Vars} {made steps out : ℕ}
       (i : Inside allowance lent₀ n size space counts step v₀ made₀ lent v made steps out) where
@@ -167,11 +174,11 @@ module _ {m : Stepper Float} {g : DcSwitchingSimulator} {Vars : Type 0} (k : Kin
     space-is = rw (k .sizes made₀ v₀) (i .fixed .space-is)
 
     -- where the next record would stand is in the memory
-    pub position : size * out ≤ length lent
-    position = position-fits m (i .going) size size-is
+    pub position : size * out ≤ length lent₀
+    position = omega (arith, position-fits m (i .going) size size-is, i .going .same-length)
 
-    pub out-ok : out ≤ length lent
-    out-ok = omega (arith, i .going .out-ok, div-le-self (length lent₀) (m .size (run made₀ v₀)), i .going .same-length)
+    pub out-ok : out ≤ length lent₀
+    out-ok = omega (arith, i .going .out-ok, div-le-self (length lent₀) (m .size (run made₀ v₀)))
 
     module _ (b : Bool) (is-b : b ≡ recorded n made) where
       here : Stage m (run made v) made n (recordOf g (state (body made v)))
@@ -181,13 +188,14 @@ module _ {m : Stepper Float} {g : DcSwitchingSimulator} {Vars : Type 0} (k : Kin
       leaves h = stops m (i .going) here b is-b space space-is h
 
       module _ (h : (eqb made n || eqb steps allowance || (b && eqb out space)) ≡ false) where
-        pub more : steps < allowance
-        more = more-allowed m (i .going) here b is-b space space-is h
-
-        pub more-steps : made < n
+        more-steps : made < n
         more-steps = let e = eqb-false made n (not-ended m (i .going) here b is-b space space-is h) in omega (arith, i .made-ok)
 
-        pub fits : b ≡ true → size * out + numbersIn counts ≤ length lent
+        -- there is an allowance for the step, and it can be counted
+        pub counted-on : (steps < allowance) × (made < mostSteps)
+        counted-on = (more-allowed m (i .going) here b is-b space space-is h, omega (arith, more-steps, i .fixed .few))
+
+        fits : b ≡ true → size * out + numbersIn counts ≤ length lent
         fits t = rw (i .fixed .counts-is, ← i .fixed .size-is) (record-fits m (i .going) here b is-b space space-is h size size-is t)
 
         -- the record has its space, so it is written exactly where it is asked for

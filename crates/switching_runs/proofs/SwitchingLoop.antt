@@ -7,6 +7,7 @@ use lib.Ieee.{Float}
 use Rattle.grid.specs.declared.simulator.DcSwitchingSimulator.{DcSwitchingSimulator}
 use Rattle.timing.specs.Steps.{stepsOf}
 use Rattle.rules.specs.Studies.{switchingRefusal}
+use Rattle.rules.proofs.Claims.{accepted-claims}
 use Rattle.rules.proofs.Sizes.{size-claims}
 use Rattle.portions.specs.declared.Stop.{Stop}
 use Rattle.portions.specs.Stopping.{memoryOf}
@@ -17,7 +18,7 @@ use Rattle.switching_step.specs.Switching.{switchingBody}
 use Rattle.switching_step.specs.Plans.{switchingPlanOf, switchingPlanStep}
 use Rattle.switching_step.proofs.Claims.{plan-claims}
 use Rattle.records.specs.Records.{recordOf}
-use Rattle.runs.proofs.Turns.{Stage, Kind}
+use Rattle.runs.proofs.Turns.{Stage, Kind, Ready}
 use Rattle.runs.proofs.Refusals.{unbroken}
 use Rattle.switching_runs.specs.declared.switching_run.SwitchingRun.{SwitchingRun}
 use Rattle.switching_runs.specs.declared.switching_run.AdvancedSwitchingRun.{AdvancedSwitchingRun}
@@ -45,11 +46,11 @@ module _ (s : SwitchingRun) (h : switchingRunRefused s ≡ false) where
   unfolding switchingRunRefused
   both = unbroken (switchingRefusal (s .grid)) (stepsOf (s .grid)) (s .«steps_made») h
 
-  pub accepted : switchingRefusal (s .grid) ≡ 0
+  accepted : switchingRefusal (s .grid) ≡ 0
   accepted = both .0
 
-  pub not-past : s .«steps_made» ≤ stepsOf (s .grid)
-  not-past = both .1
+  pub ready : Ready (switchingKind (s .grid) (s .«breaker_id») (s .«open»)) (s .variables) (s .«steps_made»)
+  ready = record { steps = accepted-claims .switching (s .grid) accepted; sizes = size-claims .switching (s .grid) accepted; taken = h; not-past = both .1 }
 
   -- a step by the plan is the body
   pub by-plan : (p : SwitchingPlan) → p ≡ switchingPlanOf (s .grid) (s .«breaker_id») (s .«open») → (j : ℕ) (w : SwitchingVariables)

@@ -1,11 +1,9 @@
 -- `advance` of a fault run meets its contract. Assumes nothing.
 use Rattle.fault_runs.specs.FaultRuns.{faultStepper}
-use Rattle.runs.proofs.Turns.{Inside, inside, position, out-ok, leaves, more, more-steps, goes}
-use Rattle.fault_runs.proofs.FaultLoop.{faultKind, accepted, not-past, by-plan, quietly, still, returned}
+use Rattle.runs.proofs.Turns.{Inside, inside, position, out-ok, leaves, counted-on, goes}
+use Rattle.fault_runs.proofs.FaultLoop.{faultKind, ready, by-plan, quietly, still, returned}
 use Rattle.fault_step.specs.Plans.{planStep}
 use Rattle.fault_step.specs.Quiet.{restsBy}
-use Rattle.rules.proofs.Claims.{accepted-claims}
-use Rattle.rules.proofs.Sizes.{size-claims}
 use Rattle.portions.proofs.Loop.{came-refused}
 use Rattle.timing.specs.Steps.{mostSteps}
 use Rattle.lists.proofs.Counting.{contrary}
@@ -49,15 +47,10 @@ stepped j =
     (λ w. (w .3 ∙ w .1 .ensures, λ r. rw (w .3) (sym (w .2 .ensures) ∙ sym (w .4) ∙ r)))
     (j .if3 .came)
 
-allowed : (c : tie.After-slice-known2 Inv-loop μ-loop) → head c .loop .steps < start (head c) .args .allowance
-allowed c =
+counted : (c : tie.After-slice-known2 Inv-loop μ-loop) → (head c .loop .steps < start (head c) .args .allowance) × (head c .loop .made < mostSteps)
+counted c =
     let t = c .before .before .before .before .before .before in
-    more _ (head c .loop .inv .0) (t .before .is-recorded .result) (t .before .is-recorded .ensures) (t .if2 .left)
-
-one-more : (c : tie.After-slice-known2 Inv-loop μ-loop) → head c .loop .made < mostSteps
-one-more c =
-    let t = c .before .before .before .before .before .before in
-    omega (arith, more-steps _ (head c .loop .inv .0) (t .before .is-recorded .result) (t .before .is-recorded .ensures) (t .if2 .left), head c .loop .inv .0 .fixed .few)
+    counted-on _ (head c .loop .inv .0) (t .before .is-recorded .result) (t .before .is-recorded .ensures) (t .if2 .left)
 
 loop-again : tie.Need-loop-again Inv-loop μ-loop
 loop-again c =
@@ -92,10 +85,8 @@ loop-holds c =
     let p = c .before in
     let q = p .before .before .before .before .before .before in
     let s = q .before .before .before .args .self in
-    let h = sym (q .before .fault-run-refused .ensures) ∙ q .if1 .left in
-    let z = accepted s h in (
-      inside (faultKind (s .grid) (s .fault)) _ _ _ _ _ _ _ _ (accepted-claims .fault (s .grid) (s .fault) z) (size-claims .fault (s .grid) (s .fault) z)
-          h (not-past s h) (p .before .before .before .total-steps .ensures) (p .before .before .record-length .ensures) (p .before .record-counts .ensures) (by-plan s h (p .fault-plan .result) (p .fault-plan .ensures)),
+    let h = sym (q .before .fault-run-refused .ensures) ∙ q .if1 .left in (
+      inside (faultKind (s .grid) (s .fault)) _ _ _ _ _ _ _ _ (ready s h) (p .before .before .before .total-steps .ensures) (p .before .before .record-length .ensures) (p .before .record-counts .ensures) (by-plan s h (p .fault-plan .result) (p .fault-plan .ensures)),
       λ r. contrary r refl,
     )
 
@@ -128,22 +119,22 @@ rests-requires c κs = search needs
 mul-put-if-recorded : tie.Need-mul-put-if-recorded Inv-loop μ-loop
 mul-put-if-recorded c =
     let l = c .before .before .before .before .before in
-    omega (arith, position _ (l .loop .inv .0), l .loop .inv .0 .going .same-length, start l .good .1 .1 .0)
+    omega (arith, position _ (l .loop .inv .0), start l .good .1 .1 .0)
 
 put-if-recorded-requires : tie.Need-put-if-recorded-requires Inv-loop μ-loop
 put-if-recorded-requires c κs = search needs
 
 add-out : tie.Need-add-out Inv-loop μ-loop
-add-out c = let x = loop-again c .0 in omega (arith, out-ok _ x, x .going .same-length, start (head c) .good .1 .1 .0)
+add-out c = omega (arith, out-ok _ (loop-again c .0), start (head c) .good .1 .1 .0)
 
 add-made : tie.Need-add-made Inv-loop μ-loop
-add-made c = omega (arith, one-more c)
+add-made c = omega (arith, counted c .1)
 
 add-steps : tie.Need-add-steps Inv-loop μ-loop
-add-steps c = omega (arith, allowed c, start (head c) .fits .allowance)
+add-steps c = omega (arith, counted c .0, start (head c) .fits .allowance)
 
 loop-less : tie.Need-loop-less Inv-loop μ-loop
-loop-less c = omega (arith, allowed c)
+loop-less c = omega (arith, counted c .0)
 
 pub advance-spec : {M : Type 1} → statement M
 advance-spec =

@@ -1,10 +1,8 @@
 -- `advance` of a switching run meets its contract. Assumes nothing.
 use Rattle.switching_runs.specs.SwitchingRuns.{switchingStepper}
-use Rattle.runs.proofs.Turns.{Inside, inside, position, out-ok, leaves, more, more-steps, goes}
-use Rattle.switching_runs.proofs.SwitchingLoop.{switchingKind, accepted, not-past, by-plan, returned}
+use Rattle.runs.proofs.Turns.{Inside, inside, position, out-ok, leaves, counted-on, goes}
+use Rattle.switching_runs.proofs.SwitchingLoop.{switchingKind, ready, by-plan, returned}
 use Rattle.switching_step.specs.Plans.{switchingPlanStep}
-use Rattle.rules.proofs.Claims.{accepted-claims}
-use Rattle.rules.proofs.Sizes.{size-claims}
 use Rattle.portions.proofs.Loop.{came-refused}
 use native.Mathlib.Omega.{arith}
 use Rattle.timing.specs.Steps.{mostSteps}
@@ -29,15 +27,10 @@ start l = l .before .before .before .before .before .before .before .before .bef
 abbrev head : tie.After-slice-known2 Inv-loop μ-loop → tie.At-loop Inv-loop μ-loop
 head c = c .before .before .before .before .before .before .before
 
-allowed : (c : tie.After-slice-known2 Inv-loop μ-loop) → head c .loop .steps < start (head c) .args .allowance
-allowed c =
+counted : (c : tie.After-slice-known2 Inv-loop μ-loop) → (head c .loop .steps < start (head c) .args .allowance) × (head c .loop .made < mostSteps)
+counted c =
     let t = c .before .before .before .before .before in
-    more _ (head c .loop .inv) (t .before .is-recorded .result) (t .before .is-recorded .ensures) (t .if2 .left)
-
-one-more : (c : tie.After-slice-known2 Inv-loop μ-loop) → head c .loop .made < mostSteps
-one-more c =
-    let t = c .before .before .before .before .before in
-    omega (arith, more-steps _ (head c .loop .inv) (t .before .is-recorded .result) (t .before .is-recorded .ensures) (t .if2 .left), head c .loop .inv .fixed .few)
+    counted-on _ (head c .loop .inv) (t .before .is-recorded .result) (t .before .is-recorded .ensures) (t .if2 .left)
 
 loop-again : tie.Need-loop-again Inv-loop μ-loop
 loop-again c =
@@ -73,9 +66,7 @@ loop-holds c =
     let q = p .before .before .before .before .before in
     let s = q .before .before .before .args .self in
     let h = sym (q .before .switching-run-refused .ensures) ∙ q .if1 .left in
-    let z = accepted s h in
-    inside (switchingKind (s .grid) (s .«breaker_id») (s .«open»)) _ _ _ _ _ _ _ _ (accepted-claims .switching (s .grid) z) (size-claims .switching (s .grid) z)
-    h (not-past s h) (p .before .before .before .total-steps .ensures) (p .before .before .record-length .ensures) (p .before .record-counts .ensures) (by-plan s h (p .switching-plan .result) (p .switching-plan .ensures))
+    inside (switchingKind (s .grid) (s .«breaker_id») (s .«open»)) _ _ _ _ _ _ _ _ (ready s h) (p .before .before .before .total-steps .ensures) (p .before .before .record-length .ensures) (p .before .record-counts .ensures) (by-plan s h (p .switching-plan .result) (p .switching-plan .ensures))
 
 is-recorded-requires : tie.Need-is-recorded-requires Inv-loop μ-loop
 is-recorded-requires c κs = search needs
@@ -97,22 +88,22 @@ switching-step-requires c κs = search needs
 mul-put-if-recorded : tie.Need-mul-put-if-recorded Inv-loop μ-loop
 mul-put-if-recorded c =
     let l = c .before .before .before .before in
-    omega (arith, position _ (l .loop .inv), l .loop .inv .going .same-length, start l .good .1 .1 .0)
+    omega (arith, position _ (l .loop .inv), start l .good .1 .1 .0)
 
 put-if-recorded-requires : tie.Need-put-if-recorded-requires Inv-loop μ-loop
 put-if-recorded-requires c κs = search needs
 
 add-out : tie.Need-add-out Inv-loop μ-loop
-add-out c = let x = loop-again c in omega (arith, out-ok _ x, x .going .same-length, start (head c) .good .1 .1 .0)
+add-out c = omega (arith, out-ok _ (loop-again c), start (head c) .good .1 .1 .0)
 
 add-made : tie.Need-add-made Inv-loop μ-loop
-add-made c = omega (arith, one-more c)
+add-made c = omega (arith, counted c .1)
 
 add-steps : tie.Need-add-steps Inv-loop μ-loop
-add-steps c = omega (arith, allowed c, start (head c) .fits .allowance)
+add-steps c = omega (arith, counted c .0, start (head c) .fits .allowance)
 
 loop-less : tie.Need-loop-less Inv-loop μ-loop
-loop-less c = omega (arith, allowed c)
+loop-less c = omega (arith, counted c .0)
 
 pub advance-spec : {M : Type 1} → statement M
 advance-spec =
