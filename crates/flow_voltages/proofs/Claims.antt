@@ -2,39 +2,19 @@
 use Prim.Native.Nat.{ℕ, zero, suc, _+_, _-_, _≤_, _<_}
 use mathlib.Core.Path.{_≡_, refl, sym, ap, _∙_}
 use mathlib.Core.Bool.{true, false}
-use mathlib.Core.List.{List, [], _∷_, _++_, foldl-append}
 use mathlib.Core.Logic.{⊎-elim}
 use native.Mathlib.Omega.{arith}
 use native.Mathlib.Numerals.{add-one}
 use lib.Ieee.{lt, ofBits}
 use Rattle.lists.proofs.Counting.{by-test, contrary, eq-or-ne}
 use Rattle.float64.specs.Constants.{nought}
-use Rattle.grid.specs.declared.parts.DcCable.{DcCable}
 use Rattle.grid.specs.declared.simulator.DcSwitchingSimulator.{DcSwitchingSimulator}
 use Rattle.flow_voltages.specs.declared.voltages.Voltages.{Voltages}
 use Rattle.flow_voltages.specs.Constants.{tolerance}
-use Rattle.flow_voltages.specs.Conductances.{joined, entry, stationCount, conductancesOf}
+use Rattle.conductances.specs.Conductances.{stationCount, conductancesOf}
 use Rattle.flow_voltages.specs.Balance.{wantedPowers}
 use Rattle.flow_voltages.specs.Voltages.{passes, voltages, ratedVoltages, voltagesOf}
-use Rattle.flow_voltages.specs.Claims.{MatrixClaims, voltagesAfter, mismatchAfter, Stops, Spent, PassClaims}
-use Rattle.flow_voltages.proofs.Entries.{matrix-cell, entry-swaps}
-
--- ---- the matrix
-
-one-more : (n i j : ℕ) (cables : List DcCable) (c : DcCable) → entry n (cables ++ (c ∷ [])) i j ≡ joined n i j (entry n cables i j) c
-unfolding entry
-one-more n i j cables c = rw foldl-append
-
-pub matrix-claims : MatrixClaims
-unfolding entry
-matrix-claims =
-    record {
-      none = λ n i j. refl;
-      last = one-more;
-      skipped = λ n i j cables c out. one-more n i j cables c ∙ rw out;
-      placed = λ n i j cables li lj. matrix-cell n cables i j li lj;
-      symmetric = λ n i j cables. entry-swaps n cables i j;
-    }
+use Rattle.flow_voltages.specs.Claims.{voltagesAfter, mismatchAfter, Stops, Spent, PassClaims}
 
 -- ---- the passes
 

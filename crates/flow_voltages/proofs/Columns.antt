@@ -8,8 +8,8 @@ use Rattle.lists.specs.Tables.{blank, over, padded}
 use Rattle.lists.proofs.Fills.{over-padded, blank-padded, padded-same, getD-padded}
 use Rattle.float64.specs.Constants.{nought}
 use Rattle.float64.specs.Arithmetic.{_⊕_, _⊗_, sumOf, of}
-use Rattle.flow_voltages.specs.Conductances.{cell}
-use Rattle.flow_voltages.specs.Symmetric.{Symmetric}
+use Rattle.conductances.specs.Conductances.{cell}
+use Rattle.conductances.specs.Symmetric.{Symmetric}
 
 -- the sums of the first j products of each row
 abbrev pub partSums : List Float → ℕ → List Float → ℕ → List Float

@@ -5,18 +5,18 @@ use mathlib.Core.List.{List, [], _∷_}
 use Prim.Native.Nat.{ℕ}
 use lib.Ieee.{Float, ofBits, ofInt, round, neg, add, sub, mul, div, lt, eq, isNan}
 use Rattle.lists.specs.Tables.{tab, padded}
-use Rattle.float64.specs.Constants.{nought, decimal}
+use Rattle.float64.specs.Constants.{nought}
 use Rattle.float64.specs.Arithmetic.{of}
 use Rattle.float64.specs.Choice.{maxOf, absOf, clampOf}
 use Rattle.grid.specs.declared.parts.ConverterTopology.the-variants.{Lcc, TwoLevelVsc}
 use Rattle.grid.specs.declared.simulator.DcSwitchingSimulator.{DcSwitchingSimulator}
 use Rattle.grid.specs.Simulator.{cablesOf}
 use Rattle.flow_voltages.specs.declared.voltages.Voltages.{Voltages}
-use Rattle.flow_voltages.specs.Conductances.{entry, matrix}
+use Rattle.conductances.specs.Conductances.{entry, matrix}
 use Rattle.flow_voltages.specs.Balance.{current, butFirst}
-use Rattle.flow_voltages.specs.Constants.{idleDivisor}
-use Rattle.flow_voltages.specs.Voltages.{moved, clamped, movedOfTwo, divisor, movedTo, passes, voltages, voltagesOf}
-use Rattle.flow_voltages.proofs.Samples.{double, station, cable, grid, cells, read, matrix-read, stations, cables}
+use Rattle.voltage_moves.specs.Moves.{moved, movedOfTwo, divisor, movedTo}
+use Rattle.flow_voltages.specs.Voltages.{passes, voltages, voltagesOf}
+use Rattle.conductances.proofs.Samples.{double, station, cable, grid, cells, read, matrix-read, stations, cables}
 
 -- two stations, 40 MW at the second, 10 ohms between them
 two-stations : DcSwitchingSimulator
@@ -33,14 +33,3 @@ two-are = ap (λ m. looked (voltages (two-stations .stations) 2 m)) (matrix-read
 three-are : looked (voltages stations 3 (matrix 3 cables)) ≡ (true, 2, double 0x4058ffffffd350fd, double 0x4058ffffff8a0903)
 unfolding stations cables station cable double looked voltages passes read cells entry tab padded current butFirst moved divisor movedTo maxOf absOf clampOf isNan lt eq ofBits ofInt round neg add sub mul div
 three-are = ap (λ m. looked (voltages stations 3 m)) (matrix-read 3 cables) ∙ refl
-
--- a divisor of zero moves nothing, nor does one of 1e-12; a voltage is held to 0.5 and 1.5 of the rated 100 kV
-moves-are
-    : (moved (decimal 3 1) (decimal 4 1) (neg (decimal 2 1)) ≡ decimal 1 1)
-    × (moved (decimal 3 1) (decimal 4 1) nought ≡ decimal 3 1)
-    × (moved (decimal 3 1) (decimal 4 1) idleDivisor ≡ decimal 3 1)
-    × (clamped (decimal 100 1) (decimal 49 1) ≡ decimal 50 1)
-    × (clamped (decimal 100 1) (decimal 151 1) ≡ decimal 150 1)
-    × (clamped (decimal 100 1) (decimal 51 1) ≡ decimal 51 1)
-unfolding moved absOf clampOf isNan lt eq ofBits ofInt round neg add sub mul div
-moves-are = (refl, refl, refl, refl, refl, refl)

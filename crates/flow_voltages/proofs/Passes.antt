@@ -11,7 +11,8 @@ use Rattle.float64.specs.Constants.{nought}
 use Rattle.float64.specs.Arithmetic.{_⊖_, _⊗_, of}
 use Rattle.flow_voltages.specs.Balance.{current, currents, power, butFirst, mismatches}
 use Rattle.flow_voltages.specs.Constants.{tolerance}
-use Rattle.flow_voltages.specs.Voltages.{largestAt, after, movedAll, passes}
+use Rattle.voltage_moves.specs.Moves.{movedAll}
+use Rattle.flow_voltages.specs.Voltages.{largestAt, after, passes}
 
 -- the mismatches from currents that are computed for all stations at once
 pub mismatches-are : (m p : List Float) (n : ℕ) (v : List Float) → n ≤ 32 → butFirst n (λ i. of p i ⊖ of v i ⊗ of (currents m n v) i) ≡ mismatches m p n v

@@ -6,18 +6,16 @@ use mathlib.Core.List.{List}
 use mathlib.Core.Logic.{⊎-elim}
 use native.Mathlib.Numerals.{add-one}
 use native.Mathlib.Omega.{arith}
-use borrow.Author.Tests.{eq-eqb, ne-eqb}
+use borrow.Author.Tests.{ne-eqb}
 use lib.Dec.{eqb}
-use lib.ListN.{set}
 use lib.Ieee.{Float}
 use Rattle.lists.specs.Tables.{blank}
 use Rattle.lists.proofs.Counting.{at-end, eq-or-ne}
 use Rattle.lists.proofs.Fills.{upto, upto-first, upto-padded, blank-padded, padded-same}
 use Rattle.float64.specs.Constants.{nought}
-use Rattle.float64.specs.Arithmetic.{_⊕_, of}
+use Rattle.float64.specs.Arithmetic.{of}
 use Rattle.float64.specs.Choice.{maxOf, absOf}
 use Rattle.flow_voltages.specs.Balance.{butFirst, largest}
-use Rattle.flow_voltages.specs.Voltages.{sumWithout, clamped, moved, divisor, movedTo}
 
 -- a station after the first is not the first
 pub later : (f : ℕ → Float) (i : ℕ) → f (i + 1) ≡ cond (eqb (i + 1) 0) nought (f (i + 1))
@@ -34,18 +32,3 @@ filled n i f h a b e = ⊎-elim
 
 pub largest-more : (d : List Float) (i : ℕ) {most x : Float} → most ≡ largest d i → x ≡ absOf (of d (i + 1)) → maxOf most x ≡ largest d (i + 1)
 largest-more d i e h = rw (e, h, add-one)
-
--- a product that belongs to a sum without one of them
-pub without-more : (i : ℕ) (f : ℕ → Float) (j : ℕ) {sum x : Float} → (j ≡ i → ⊥) → sum ≡ sumWithout i f j → x ≡ f j → sum ⊕ x ≡ sumWithout i f (j + 1)
-without-more i f j d e h = rw (add-one, ne-eqb j i d, e, h)
-
--- and the one that does not
-pub without-self : (i : ℕ) (f : ℕ → Float) → sumWithout i f i ≡ sumWithout i f (i + 1)
-without-self i f = rw (add-one, eq-eqb i i refl)
-
-pub moved-more : (m : List Float) (n : ℕ) (rated d v : List Float) (i : ℕ) {w : List Float} {x : Float}
-    → w ≡ movedTo m n rated d v i
-    → x ≡ clamped (of rated (i + 1)) (moved (of w (i + 1)) (of d (i + 1)) (divisor m n w (i + 1)))
-    → set w (i + 1) x ≡ movedTo m n rated d v (i + 1)
-unfolding movedTo
-moved-more m n rated d v i e h = rw (h, e, add-one)

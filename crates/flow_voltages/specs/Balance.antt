@@ -13,7 +13,7 @@ use Rattle.grid.specs.Simulator.{blankStation}
 use Rattle.grid.specs.declared.parts.ConverterStation.{ConverterStation}
 use Rattle.grid.specs.declared.simulator.DcSwitchingSimulator.{DcSwitchingSimulator}
 use Rattle.flow_voltages.specs.Constants.{loading}
-use Rattle.flow_voltages.specs.Conductances.{cell, stationCount, conductancesOf}
+use Rattle.conductances.specs.Conductances.{cell, stationCount, conductancesOf}
 
 -- the current of station i: G(i,0)·V0 + G(i,1)·V1 + ..
 unfoldable pub current : List Float → ℕ → List Float → ℕ → Float

@@ -12,17 +12,6 @@ loading = ofBits binary64 0x3fe9_9999_9999_999a
 abbrev pub tolerance : Float
 tolerance = ofBits binary64 0x3eb0_c6f7_a0b5_ed8d
 
--- the divisor up to which nothing moves
-abbrev pub idleDivisor : Float
-idleDivisor = ofBits binary64 0x3d71_9799_812d_ea11
-
--- clamped to 0.5 to 1.5 of rated
-abbrev pub lowPart : Float
-lowPart = ofBits binary64 0x3fe0_0000_0000_0000
-
-abbrev pub highPart : Float
-highPart = ofBits binary64 0x3ff8_0000_0000_0000
-
 -- at most 50 passes
 abbrev pub mostPasses : ℕ
 mostPasses = 50
@@ -30,8 +19,5 @@ mostPasses = 50
 pub constants-are
     : (loading ≡ decimal 8 10)
     × (tolerance ≡ decimal 1 (10 ^ 6))
-    × (idleDivisor ≡ decimal 1 (10 ^ 12))
-    × (lowPart ≡ decimal 5 10)
-    × (highPart ≡ decimal 15 10)
 unfolding ofBits round
-constants-are = (refl, refl, refl, refl, refl)
+constants-are = (refl, refl)

@@ -1,6 +1,4 @@
 pub mod Constants
-pub mod Conductances
-pub mod Symmetric
 pub mod Balance
 pub mod Voltages
 pub mod Claims

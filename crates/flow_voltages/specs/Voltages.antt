@@ -2,54 +2,18 @@
 use Prim.Native.Nat.{ℕ, zero, suc, _+_, _-_}
 use mathlib.Core.Bool.{true, false, cond}
 use mathlib.Core.List.{List}
-use lib.Dec.{eqb}
-use lib.ListN.{getD, set}
+use lib.ListN.{getD}
 use lib.Ieee.{Float, lt}
 use Rattle.lists.specs.Tables.{padded}
-use Rattle.float64.specs.Constants.{nought, two}
-use Rattle.float64.specs.Arithmetic.{_⊕_, _⊗_, _⊘_, of}
-use Rattle.float64.specs.Choice.{absOf, clampOf}
+use Rattle.float64.specs.Constants.{nought}
 use Rattle.grid.specs.Simulator.{blankStation}
 use Rattle.grid.specs.declared.parts.ConverterStation.{ConverterStation}
 use Rattle.grid.specs.declared.simulator.DcSwitchingSimulator.{DcSwitchingSimulator}
 use Rattle.flow_voltages.specs.declared.voltages.Voltages.{Voltages}
-use Rattle.flow_voltages.specs.Constants.{tolerance, idleDivisor, lowPart, highPart, mostPasses}
-use Rattle.flow_voltages.specs.Conductances.{cell, stationCount, conductancesOf}
+use Rattle.flow_voltages.specs.Constants.{tolerance, mostPasses}
+use Rattle.conductances.specs.Conductances.{stationCount, conductancesOf}
+use Rattle.voltage_moves.specs.Moves.{movedAll}
 use Rattle.flow_voltages.specs.Balance.{wantedPowers, mismatches, largest}
-
--- a voltage moved by its mismatch over a divisor that is not near zero
-unfoldable pub moved : Float → Float → Float → Float
-moved v d q = cond (lt idleDivisor (absOf q)) (v ⊕ d ⊘ q) v
-
--- Two stations: no clamp.
-abbrev pub divisorOfTwo : List Float → List Float → Float
-divisorOfTwo m v = two ⊗ cell m 1 1 ⊗ of v 1 ⊕ cell m 1 0 ⊗ of v 0
-
-unfoldable pub movedOfTwo : List Float → List Float → List Float → List Float
-movedOfTwo m d v = set v 1 (moved (of v 1) (of d 1) (divisorOfTwo m v))
-
--- the sum f 0 + f 1 + .. + f (k - 1) without f i
-abbrev pub sumWithout : ℕ → (ℕ → Float) → ℕ → Float
-sumWithout i f zero = nought
-sumWithout i f (suc k) = cond (eqb k i) (sumWithout i f k) (sumWithout i f k ⊕ f k)
-
--- the divisor of station i: 2·G(i,i)·Vi and G(i,j)·Vj of all others
-unfoldable pub divisor : List Float → ℕ → List Float → ℕ → Float
-divisor m n v i = two ⊗ cell m i i ⊗ of v i ⊕ sumWithout i (λ j. cell m i j ⊗ of v j) n
-
--- Three or more: each clamped to 0.5 to 1.5 of rated.
-abbrev pub clamped : Float → Float → Float
-clamped rated v = clampOf v (rated ⊗ lowPart) (rated ⊗ highPart)
-
--- The voltages when stations 1 to k have moved, one after the other, by mismatches d that were all taken before: only the divisor sees moved ones.
-unfoldable pub movedTo : List Float → ℕ → List Float → List Float → List Float → ℕ → List Float
-movedTo m n rated d v zero = v
-movedTo m n rated d v (suc k) =
-    let w = movedTo m n rated d v k in
-    set w (suc k) (clamped (of rated (suc k)) (moved (of w (suc k)) (of d (suc k)) (divisor m n w (suc k))))
-
-abbrev pub movedAll : List Float → ℕ → List Float → List Float → List Float → List Float
-movedAll m n rated d v = cond (eqb n 2) (movedOfTwo m d v) (movedTo m n rated d v (n - 1))
 
 -- Up to `left` passes more after k: it stops in the first pass whose largest mismatch is below 1e-6 and returns that pass's number.
 module _ (m : List Float) (n : ℕ) (rated p : List Float) where

@@ -5,9 +5,9 @@ ghost use lib.Ieee.{nan};
 ghost use Rattle.lists.specs.Tables.{blank, over};
 ghost use Rattle.float64.specs.Constants.{nought};
 ghost use Rattle.float64.specs.Arithmetic.{_⊕_, _⊖_, _⊗_, of};
-ghost use Rattle.flow_voltages.specs.Conductances.{cell};
+ghost use Rattle.conductances.specs.Conductances.{cell};
 ghost use Rattle.flow_voltages.specs.Balance.{currents, butFirst, mismatches, largest};
-ghost use Rattle.flow_voltages.specs.Symmetric.{Symmetric};
+ghost use Rattle.conductances.specs.Symmetric.{Symmetric};
 use float64::abs;
 use float64::max;
 

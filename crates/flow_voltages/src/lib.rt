@@ -1,6 +1,5 @@
 // The voltages of a grid in the steady state, by passes over the stations' power balance.
 mod balance;
-mod conductances;
 mod voltages;
 
 pub use voltages::Found;

@@ -1,27 +1,24 @@
 // The voltages, pass by pass.
 ghost use mathlib.Core.Path.{_≡_};
-ghost use mathlib.Core.Logic.{_⊎_};
-ghost use Prim.Native.Nat.{_≤_, _<_, _-_};
+ghost use Prim.Native.Nat.{_≤_};
 ghost use mathlib.Core.Bool.{cond};
 ghost use lib.Dec.{eqb};
 ghost use lib.Ieee.{neg};
 ghost use Rattle.lists.specs.Tables.{blank};
 ghost use Rattle.flow_voltages.specs.Constants.{loading};
 ghost use Rattle.float64.specs.Constants.{nought};
-ghost use Rattle.float64.specs.Arithmetic.{_⊗_, of};
-ghost use Rattle.flow_voltages.specs.Conductances.{cell};
-ghost use Rattle.flow_voltages.specs.Symmetric.{Symmetric};
+ghost use Rattle.float64.specs.Arithmetic.{_⊗_};
+ghost use Rattle.conductances.specs.Symmetric.{Symmetric};
 ghost use Rattle.flow_voltages.specs.Balance.{wantedPowers, currentsOf};
 ghost use Rattle.flow_voltages.specs.Voltages as specs;
-ghost use Rattle.flow_voltages.specs.Voltages.{ratedVoltages, movedAll, movedTo, sumWithout, voltagesOf};
+ghost use Rattle.flow_voltages.specs.Voltages.{ratedVoltages, voltagesOf};
 use crate::balance::mismatches_at;
 use crate::balance::station_currents;
-use crate::conductances::conductances;
-use float64::abs;
-use float64::clamp;
+use conductances::conductances_of;
 use grid::ConverterStation;
 use grid::DcSwitchingSimulator;
 use grid::present;
+use voltage_moves::move_voltages;
 
 // The part of its rated power that a station takes.
 const LOADING: f64 = 0.8;
@@ -61,11 +58,8 @@ pub fn find_with_currents(g: DcSwitchingSimulator) -> Found
     ensures { λ r. ⌜ (r .voltages ≡ voltagesOf g) × (r .«i_dc_ka» ≡ currentsOf g (voltagesOf g .«v_dc_kv»)) ⌝ }
 {
     let n = present(g.n_stations, 32);
-    let n_cables = present(g.n_cables, 64);
     let stations = g.stations;
-    let cables = g.cables;
-    let mut m = [0.0; 1024];
-    conductances(&mut m, cables, n_cables, n);
+    let m = conductances_of(g);
     let voltages = run_passes(stations, n, &m);
     let v = voltages.v_dc_kv;
     let mut sums = [0.0; 32];
@@ -138,71 +132,4 @@ fn wanted_power(i: usize, p_rated_mw: f64) -> f64
         return 0.0;
     }
     -p_rated_mw * LOADING
-}
-
-// A pass's voltages after it, from mismatches that were all taken before it.
-fn move_voltages(v: &mut [f64; 32], rated: &[f64; 32], d: &[f64; 32], m: &[f64; 1024], n: usize)
-    requires { ⌜ n ≤ 32 ⌝ }
-    ensures { λ _. ⌜ now (v .exit) ≡ movedAll (now (m .entry)) n (now (rated .entry)) (now (d .entry)) (now (v .entry)) ⌝ }
-{
-    if n == 2 {
-        let q = 2.0 * m[33] * v[1] + m[32] * v[0];
-        v[1] = moved(v[1], d[1], q);
-    } else {
-        move_each(v, rated, d, m, n);
-    }
-}
-
-// The divisor of a station sees the stations before it as they have moved.
-fn move_each(v: &mut [f64; 32], rated: &[f64; 32], d: &[f64; 32], m: &[f64; 1024], n: usize)
-    requires { ⌜ n ≤ 32 ⌝ }
-    ensures { λ _. ⌜ now (v .exit) ≡ movedTo (now (m .entry)) n (now (rated .entry)) (now (d .entry)) (now (v .entry)) (n - 1) ⌝ }
-{
-    let mut i = 0;
-    while i + 1 < n {
-        i += 1;
-        let x = moved(v[i], d[i], divisor(m, v, i, n));
-        let r = rated[i];
-        v[i] = clamp(x, r * 0.5, r * 1.5);
-    }
-}
-
-fn divisor(m: &[f64; 1024], v: &[f64; 32], i: usize, n: usize) -> f64
-    requires { ⌜ (i < n) × (n ≤ 32) ⌝ }
-    ensures { λ r. ⌜ r ≡ specs.divisor (now (m .entry)) n (now (v .entry)) i ⌝ }
-{
-    let below = add_products(m, v, i, 0, i, 0.0);
-    let others = add_products(m, v, i, i + 1, n, below);
-    2.0 * m[i * 32 + i] * v[i] + others
-}
-
-// Adds the products of row i from one column up to another, neither of them i.
-fn add_products(
-    m: &[f64; 1024],
-    v: &[f64; 32],
-    i: usize,
-    first: usize,
-    end: usize,
-    start: f64,
-) -> f64
-    requires { ⌜ (i < 32) × (first ≤ end) × (end ≤ 32) × ((end ≤ i) ⊎ (i < first)) × (start ≡ sumWithout i (λ j. cell (m .now) i j ⊗ of (v .now) j) first) ⌝ }
-    ensures { λ r. ⌜ r ≡ sumWithout i (λ j. cell (now (m .entry)) i j ⊗ of (now (v .entry)) j) end ⌝ }
-{
-    let mut sum = start;
-    let mut j = first;
-    while j < end {
-        sum = sum + m[i * 32 + j] * v[j];
-        j += 1;
-    }
-    sum
-}
-
-// A divisor near zero moves nothing.
-fn moved(v: f64, mismatch: f64, divisor: f64) -> f64
-    ensures { λ r. ⌜ r ≡ specs.moved v mismatch divisor ⌝ }
-{
-    if abs(divisor) > 0.000000000001 {
-        return v + mismatch / divisor;
-    }
-    v
 }

@@ -14,7 +14,7 @@ use Rattle.grid.specs.declared.simulator.DcSwitchingSimulator.{DcSwitchingSimul
 use Rattle.rules.specs.Studies.{flowRefusal}
 use Rattle.rules.proofs.Sizes.{size-claims}
 use Rattle.converter.specs.Point.{blankPoint}
-use Rattle.flow_voltages.specs.Conductances.{stationCount, conductancesOf}
+use Rattle.conductances.specs.Conductances.{stationCount, conductancesOf}
 use Rattle.flow_voltages.specs.Voltages.{voltagesOf}
 use Rattle.flow_voltages.proofs.Claims.{pass-claims, counted, first-pass}
 use Rattle.power_flow.specs.Flow.{cableCount, solutionAt, solutionOf, blankSolution, flowAnswer}

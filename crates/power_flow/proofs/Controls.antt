@@ -9,9 +9,9 @@ use Rattle.elementary.specs.Wave.{C, series}
 use Rattle.converter.specs.declared.point.ConverterOperatingPoint.{ConverterOperatingPoint}
 use Rattle.converter.specs.Lcc.{lccPoint}
 use Rattle.converter.specs.Vsc.{vscPoint, modulation, lossFactor}
-use Rattle.flow_voltages.specs.Conductances.{entry, matrix}
+use Rattle.conductances.specs.Conductances.{entry, matrix}
 use Rattle.flow_voltages.specs.Balance.{current}
-use Rattle.flow_voltages.proofs.Samples.{double, station, cable, cells, read, matrix-read, stations, cables}
+use Rattle.conductances.proofs.Samples.{double, station, cable, cells, read, matrix-read, stations, cables}
 use Rattle.power_flow.specs.Solution.{isLcc, operatingPoint, pointOf, cableLoss, lossOf, totalLosses}
 
 -- points and losses at the voltages that the passes find

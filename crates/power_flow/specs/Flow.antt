@@ -8,7 +8,7 @@ use Rattle.grid.specs.declared.simulator.DcSwitchingSimulator.{DcSwitchingSimul
 use Rattle.rules.specs.Studies.{flowRefusal}
 use Rattle.converter.specs.Point.{blankPoint}
 use Rattle.flow_voltages.specs.declared.voltages.Voltages.{Voltages}
-use Rattle.flow_voltages.specs.Conductances.{stationCount, conductancesOf}
+use Rattle.conductances.specs.Conductances.{stationCount, conductancesOf}
 use Rattle.flow_voltages.specs.Voltages.{voltagesOf}
 use Rattle.power_flow.specs.declared.flow.DcGridSolution.{DcGridSolution}
 use Rattle.power_flow.specs.Solution.{operatingPoints, cableLosses, totalLosses}

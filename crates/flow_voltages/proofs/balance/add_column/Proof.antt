@@ -1,5 +1,5 @@
 -- `add_column` meets its contract. Assumes nothing.
-use Rattle.flow_voltages.specs.Conductances.{cell}
+use Rattle.conductances.specs.Conductances.{cell}
 use Rattle.float64.specs.Arithmetic.{_⊕_, _⊗_, of}
 use lib.Ieee.{nan}
 use native.Mathlib.Omega.{arith}

@@ -3,7 +3,7 @@ use Rattle.flow_voltages.proofs.Passes.{passes-out, turn-hit, turn-on}
 use Rattle.flow_voltages.specs.Voltages.{passes, voltages}
 use native.Mathlib.Omega.{arith}
 use mathlib.Core.Path.{_≡_, refl, sym, _∙_}
-use Prim.Native.Nat.{_-_, _≤_}
+use Prim.Native.Nat.{_-_, _≤_, min}
 use Rattle.lists.specs.Tables.{blank}
 use borrow.Author.Needs.{needs}
 use Rattle.flow_voltages.proofs.voltages.run_passes.Statement.{statement}
@@ -42,7 +42,8 @@ loop-again c =
     let k = c .before .before .before .before .before in
     let l = k .before .before .before .before .before in
     let s = l .before .before .before .before in
-    (omega arith, turn-on (s .args .m .now) (s .args .n) _ _ (l .loop .v) (k .mismatches-at .ensures .0) (k .mismatches-at .ensures .1) (l .loop .passes) (omega (arith, l .loop .inv .0, k .before .before .before .before .if1 .left)) (c .before .before .before .before .if2 .left) (c .move-voltages .ensures) ∙ l .loop .inv .1)
+    let same : min (s .args .n) 32 ≡ s .args .n = omega (arith, s .pre .0) in
+    (omega arith, turn-on (s .args .m .now) (s .args .n) _ _ (l .loop .v) (k .mismatches-at .ensures .0) (k .mismatches-at .ensures .1) (l .loop .passes) (omega (arith, l .loop .inv .0, k .before .before .before .before .if1 .left)) (c .before .before .before .before .if2 .left) (c .move-voltages .ensures ∙ rw same) ∙ l .loop .inv .1)
 
 returns : tie.Need-returns Inv-loop μ-loop
 unfolding voltages

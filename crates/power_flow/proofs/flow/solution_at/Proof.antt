@@ -3,7 +3,7 @@ use Rattle.power_flow.proofs.Points.{points-from, total-from, sum-padde
 use Rattle.power_flow.specs.Flow.{solutionAt}
 use Rattle.power_flow.specs.Solution.{lossOf, totalLosses}
 use Rattle.flow_voltages.specs.Balance.{currents}
-use Rattle.flow_voltages.specs.Conductances.{conductancesOf}
+use Rattle.conductances.specs.Conductances.{conductancesOf}
 use Rattle.float64.specs.Arithmetic.{sumOf}
 use Prim.Native.Nat.{_≤_}
 use native.Mathlib.Omega.{arith}

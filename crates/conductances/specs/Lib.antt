@@ -1,0 +1,3 @@
+pub mod Conductances
+pub mod Symmetric
+pub mod Claims
