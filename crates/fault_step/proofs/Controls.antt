@@ -33,7 +33,7 @@ use Rattle.fault_circuit.specs.Parameters.{parametersAt}
 use Rattle.fault_circuit.specs.Circuit.{responseOf, underdampedResponse, overdampedResponse, typeFactor, circuitAt}
 use Rattle.fault_circuit.specs.Current.{amperesBy, currentBy, decayedBy}
 use Rattle.fault_step.specs.declared.variables.FaultVariables.{FaultVariables}
-use Rattle.fault_step.specs.Fault.{Setting, diDt, dissipated, recovering, activeAt, allRecovered, whileFaulted, afterClearing, beforeInception, body, settingOf, faultBody, beforeLoop, faultAfter}
+use Rattle.fault_step.specs.Fault.{Setting, diDt, dissipated, activeAt, allRecovered, whileFaulted, afterClearing, beforeInception, body, settingOf, faultBody, beforeLoop, faultAfter}
 use Rattle.run_start.proofs.Samples.{double, state, stepped, station, cable, breaker, two}
 
 -- ---- what a fault run's step is made of
@@ -47,15 +47,6 @@ rises-are = (refl, refl, refl)
 energies-are : (dissipated (decimal 1 10) (decimal 125 10) (decimal 2 1) ≡ double 0x3f747ae147ae147b) × (dissipated (decimal 3 10) (decimal 7 10) (decimal 13 10) ≡ double 0x3f37423be4b29c9f)
 unfolding double ofBits round mul div
 energies-are = (refl, refl)
-
--- of 320 kV: below, near it, at it and above it
-recovering-are
-    : (recovering (decimal 320 1) (decimal 3001 10) ≡ double 0x4072c6b851eb851f)
-    × (recovering (decimal 320 1) (decimal 3199 10) ≡ decimal 320 1)
-    × (recovering (decimal 320 1) (decimal 320 1) ≡ decimal 320 1)
-    × (recovering (decimal 320 1) (decimal 321 1) ≡ decimal 321 1)
-unfolding double minOf isNan lt ofBits round add mul
-recovering-are = (refl, refl, refl, refl)
 
 -- ---- its loop: two stations of 100 and 200 kV and a cable, steps of 0.1 ms and a duration of 1 ms. The inception is exactly the time of step 3, which is not 0.3, and the breakers clear exactly at that of step 6.
 

@@ -14,7 +14,8 @@ use Rattle.network.specs.Network.{stationCount}
 use Rattle.run_start.specs.Start.{timeAt}
 use Rattle.fault_step.specs.declared.variables.FaultVariables.{FaultVariables}
 use Rattle.fault_step.specs.declared.plan.FaultPlan.{FaultPlan}
-use Rattle.fault_step.specs.Fault.{activeAt, body, whileFaulted, afterClearing, beforeInception, recovering, allRecovered}
+use Rattle.fault_step.specs.Fault.{activeAt, body, whileFaulted, afterClearing, beforeInception, allRecovered}
+use Rattle.recovery.specs.Recovery.{recovering}
 use Rattle.fault_step.specs.Plans.{planSetting, planStep}
 use Rattle.fault_step.specs.Quiet.{waitsBy, restsBy, quietStep}
 

@@ -9,8 +9,9 @@ use Rattle.float64.specs.Arithmetic.{_⊗_, of}
 use Rattle.state_derivatives.specs.declared.state.DcTransientState.{DcTransientState}
 use Rattle.run_start.specs.Start.{timeAt}
 use Rattle.fault_step.specs.declared.variables.FaultVariables.{FaultVariables}
-use Rattle.fault_step.specs.Constants.{recoveredPart}
-use Rattle.fault_step.specs.Fault.{Setting, recovering, body, whileFaulted, afterClearing, beforeInception}
+use Rattle.recovery.specs.Constants.{recoveredPart}
+use Rattle.recovery.specs.Recovery.{recovering}
+use Rattle.fault_step.specs.Fault.{Setting, body, whileFaulted, afterClearing, beforeInception}
 
 -- a setting with other rated voltages
 abbrev withRated : Setting → (ℕ → Float) → Setting

@@ -2,12 +2,12 @@
 use Prim.Native.Nat.{ℕ, zero, suc, min}
 use mathlib.Core.Bool.{Bool, true, false, not, _&&_, _||_, cond}
 use mathlib.Core.List.{List}
-use lib.Ieee.{Float, nan, lt, le}
+use lib.Ieee.{Float, nan, le}
 use Rattle.lists.specs.Tables.{blank, over, padded}
 use Rattle.lists.specs.Scans.{each}
 use Rattle.float64.specs.Constants.{nought, kilo, milli, pico}
 use Rattle.float64.specs.Arithmetic.{_⊕_, _⊖_, _⊗_, _⊘_, of}
-use Rattle.float64.specs.Choice.{maxOf, minOf, absOf}
+use Rattle.float64.specs.Choice.{maxOf, absOf}
 use Rattle.grid.specs.declared.parts.DcFaultEvent.{DcFaultEvent}
 use Rattle.grid.specs.declared.simulator.DcSwitchingSimulator.{DcSwitchingSimulator}
 use Rattle.timing.specs.Steps.{timeStepMs, durationMs}
@@ -21,7 +21,8 @@ use Rattle.fault_circuit.specs.Parameters.{parametersOf}
 use Rattle.fault_circuit.specs.Circuit.{circuitOf}
 use Rattle.fault_circuit.specs.Current.{rlcCurrent, decayedOf}
 use Rattle.fault_step.specs.declared.variables.FaultVariables.{FaultVariables}
-use Rattle.fault_step.specs.Constants.{recoveredPart}
+use Rattle.recovery.specs.Constants.{recoveredPart}
+use Rattle.recovery.specs.Recovery.{recovering}
 
 -- what the body reads and does not change
 pub record Setting : Type 0 where
@@ -49,10 +50,6 @@ diDt dt i previous = absOf (i ⊖ previous) ⊘ maxOf dt pico
 -- "I²R·dt" of one step, in MJ
 abbrev pub dissipated : (dt resistance i : Float) → Float
 dissipated dt resistance i = (i ⊗ kilo) ⊗ (i ⊗ kilo) ⊗ resistance ⊗ (dt ⊗ milli) ⊘ million
-
--- "Recover voltages gradually": by 0.001 of the rated one in each step
-abbrev pub recovering : (rated v : Float) → Float
-recovering rated v = cond (lt v rated) (minOf (v ⊕ milli ⊗ rated) rated) v
 
 module _ (z : Setting) where
   -- fault_active: it stays once it is set

@@ -1,4 +1,3 @@
-pub mod Constants
 pub mod Fault
 pub mod Plans
 pub mod Quiet

@@ -7,14 +7,13 @@ ghost use Rattle.fault_step.specs.Plans.{planSetting, planStep};
 use crate::plan::FaultPlan;
 use crate::quiet::quiet_step;
 use crate::quiet::waits;
-use crate::recovery::all_recovered;
-use crate::recovery::recover_voltages;
 use crate::variables::FaultVariables;
 use fault_circuit::decayed_current_ka;
 use fault_circuit::fault_current_ka;
 use float64::abs;
 use float64::max;
-use grid::present;
+use recovery::all_recovered;
+use recovery::recover_voltages;
 use run_start::step_time_ms;
 use state_derivatives::DcTransientState;
 use transient::rk4_step;
@@ -102,9 +101,8 @@ fn after_clearing(plan: FaultPlan, v: FaultVariables, t_ms: f64) -> FaultVariabl
     let rated = plan.rated_kv;
     let before = v.state;
     let mut y = before.y;
-    let n = present(k.n_stations, 32);
-    let recovered = all_recovered(&y, &rated, n);
-    recover_voltages(&mut y, &rated, n);
+    let recovered = all_recovered(&y, &rated, k.n_stations);
+    recover_voltages(&mut y, &rated, k.n_stations);
     let first = recovered & (k.duration_ms <= v.voltage_recovery_time_ms);
     let left_ka = decayed_current_ka(circuit, v.prev_fault_current_ka, v.clearing_time_ms, t_ms);
     let state = DcTransientState {

@@ -2,7 +2,6 @@
 mod fault;
 mod plan;
 mod quiet;
-mod recovery;
 mod variables;
 
 pub use fault::fault_step;

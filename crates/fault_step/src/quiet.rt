@@ -5,12 +5,11 @@ ghost use Rattle.fault_circuit.specs.Current.{decayedOf};
 ghost use Rattle.fault_step.specs.Quiet.{waitsBy, restsBy, quietStep};
 use crate::plan::FaultConstants;
 use crate::plan::FaultPlan;
-use crate::recovery::all_recovered;
-use crate::recovery::none_below;
 use crate::variables::FaultVariables;
 use fault_circuit::FaultCircuit;
 use fault_circuit::decayed_current_ka;
-use grid::present;
+use recovery::all_recovered;
+use recovery::none_below;
 use run_start::step_time_ms;
 use state_derivatives::DcTransientState;
 
@@ -32,7 +31,7 @@ pub fn rests(plan: FaultPlan, v: FaultVariables) -> bool
         let rated = plan.rated_kv;
         let state = v.state;
         let y = state.y;
-        let n = present(k.n_stations, 32);
+        let n = k.n_stations;
         let recovers = all_recovered(&y, &rated, n) & (k.duration_ms <= v.voltage_recovery_time_ms);
         return none_below(&y, &rated, n) & !recovers;
     }

@@ -5,9 +5,6 @@ use borrow.Author.Needs.{needs}
 use Rattle.fault_step.proofs.fault.after_clearing.Statement.{statement}
 use Rattle.fault_step.proofs.fault.after_clearing.Tie as tie
 
-present-requires : tie.Need-present-requires
-present-requires c κs = search needs
-
 all-recovered-requires : tie.Need-all-recovered-requires
 all-recovered-requires c κs = search needs
 
@@ -25,14 +22,12 @@ unfolding afterClearing
 returns c =
     let v = c .before .before .before .before .before .before .before .before in
     let r = v .before .before .before in
-    let p = r .before .before .before in
-    rw (c .before .before .choose .ensures, c .before .before .before .before .before .decayed-current-ka .ensures, v .recover-voltages .ensures, r .all-recovered .ensures, p .present .ensures)
+    rw (c .before .before .choose .ensures, c .before .before .before .before .before .decayed-current-ka .ensures, v .recover-voltages .ensures, r .all-recovered .ensures)
 
 pub after-clearing-spec : {M : Type 1} → statement M
 after-clearing-spec =
     tie.close
     (tie.spec
-    present-requires
     all-recovered-requires
     recover-voltages-requires
     decayed-current-ka-requires

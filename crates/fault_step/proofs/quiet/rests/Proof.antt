@@ -4,9 +4,6 @@ use borrow.Author.Needs.{needs}
 use Rattle.fault_step.proofs.quiet.rests.Statement.{statement}
 use Rattle.fault_step.proofs.quiet.rests.Tie as tie
 
-present-requires : tie.Need-present-requires
-present-requires c κs = search needs
-
 all-recovered-requires : tie.Need-all-recovered-requires
 all-recovered-requires c κs = search needs
 
@@ -18,7 +15,7 @@ unfolding restsBy
 returns c =
     let r = c .before .before .before .before .before in
     let p = r .before .before .before in
-    rw (c .none-below .ensures, r .all-recovered .ensures, p .present .ensures, p .before .before .before .before .before .if1 .taken)
+    rw (c .none-below .ensures, r .all-recovered .ensures, p .before .before .before .before .if1 .taken)
 
 returns-2 : tie.Need-returns-2
 unfolding restsBy
@@ -27,4 +24,4 @@ returns-2 c = rw (c .if1 .left)
 pub rests-spec : {M : Type 1} → statement M
 rests-spec =
     tie.close
-    (tie.spec present-requires all-recovered-requires none-below-requires returns returns-2)
+    (tie.spec all-recovered-requires none-below-requires returns returns-2)

@@ -1,7 +1,7 @@
 -- `recovered` meets its contract. Assumes nothing.
 use borrow.Author.Needs.{needs}
-use Rattle.fault_step.proofs.recovery.recovered.Statement.{statement}
-use Rattle.fault_step.proofs.recovery.recovered.Tie as tie
+use Rattle.recovery.proofs.recovery.recovered.Statement.{statement}
+use Rattle.recovery.proofs.recovery.recovered.Tie as tie
 
 min-requires : tie.Need-min-requires
 min-requires c κs = search needs

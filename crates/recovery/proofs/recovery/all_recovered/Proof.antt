@@ -3,7 +3,7 @@ use Rattle.lists.specs.Scans.{some}
 use Rattle.lists.proofs.Scanning.{some-found, some-none}
 use Rattle.lists.proofs.Counting.{at-end}
 use Rattle.float64.specs.Arithmetic.{of, _⊗_}
-use Rattle.fault_step.specs.Constants.{recoveredPart}
+use Rattle.recovery.specs.Constants.{recoveredPart}
 use lib.Ieee.{Float, le}
 use native.Mathlib.Omega.{arith}
 use Prim.Native.Nat.{ℕ, _-_, _≤_}
@@ -11,18 +11,21 @@ use mathlib.Core.Bool.{Bool, false, not}
 use mathlib.Core.List.{List}
 use mathlib.Core.Path.{_≡_, refl, sym, ap, _∙_}
 use borrow.Author.Needs.{needs}
-use Rattle.fault_step.proofs.recovery.all_recovered.Statement.{statement}
-use Rattle.fault_step.proofs.recovery.all_recovered.Tie as tie
+use Rattle.recovery.proofs.recovery.all_recovered.Statement.{statement}
+use Rattle.recovery.proofs.recovery.all_recovered.Tie as tie
 
 -- a voltage has not recovered
 abbrev behind : List Float → List Float → ℕ → Bool
 behind y rated i = not (le (recoveredPart ⊗ of rated i) (of y i))
 
 abbrev Inv-loop : tie.InvT-loop
-Inv-loop y rated n i₀ i = (i ≤ n) × (some i (behind y rated) ≡ false)
+Inv-loop y rated n-stations n i₀ i = (i ≤ n) × (some i (behind y rated) ≡ false)
 
 abbrev μ-loop : tie.MeasureT-loop
-μ-loop y rated n i₀ i = n - i
+μ-loop y rated n-stations n i₀ i = n - i
+
+present-requires : tie.Need-present-requires Inv-loop μ-loop
+present-requires c κs = search needs
 
 loop-holds : tie.Need-loop-holds Inv-loop μ-loop
 loop-holds c = (omega arith, refl)
@@ -51,19 +54,22 @@ loop-less c = search needs
 loop-again : tie.Need-loop-again Inv-loop μ-loop
 loop-again c =
     let l = c .before .before .before .before .before in
-    let a = l .before .args in
+    let p = l .before in
+    let a = p .before .args in
     (omega arith, some-none (behind (a .y .now) (a .rated .now)) (l .loop .i) (l .loop .inv .1) (ap not (sym (c .before .has-recovered .ensures) ∙ c .if1 .taken)))
 
 returns : tie.Need-returns Inv-loop μ-loop
 returns c =
     let l = c .before .before .before .before .before in
-    let a = l .before .args in
-    ap not (sym (some-found (behind (a .y .now) (a .rated .now)) (a .n) (l .loop .i) (c .before .before .before .before .loop-test .taken) (ap not (sym (c .before .has-recovered .ensures) ∙ c .if1 .left))))
+    let p = l .before in
+    let a = p .before .args in
+    rw (← p .present .ensures) (ap not (sym (some-found (behind (a .y .now) (a .rated .now)) (p .present .result) (l .loop .i) (c .before .before .before .before .loop-test .taken) (ap not (sym (c .before .has-recovered .ensures) ∙ c .if1 .left)))))
 
 returns-2 : tie.Need-returns-2 Inv-loop μ-loop
 returns-2 c =
-    let a = c .before .before .args in
-    at-end (λ n. not (some n (behind (a .y .now) (a .rated .now)))) (c .before .loop .inv .0) (c .loop-test .left) (ap not (sym (c .before .loop .inv .1)))
+    let p = c .before .before in
+    let a = p .before .args in
+    rw (← p .present .ensures) (at-end (λ n. not (some n (behind (a .y .now) (a .rated .now)))) (c .before .loop .inv .0) (c .loop-test .left) (ap not (sym (c .before .loop .inv .1))))
 
 pub all-recovered-spec : {M : Type 1} → statement M
 all-recovered-spec =
@@ -71,6 +77,7 @@ all-recovered-spec =
     (tie.spec
     Inv-loop
     μ-loop
+    present-requires
     loop-holds
     mul-has-recovered
     element-copy-out-has-recovered
