@@ -25,3 +25,8 @@ sine-are = (refl, refl, refl, refl, refl, refl)
 cosine-are : (C (double 0x0000000000000000) ≡ double 0x3ff0000000000000) × (C (double 0x3ff0000000000000) ≡ double 0x3fe14a280fb5068c) × (C (double 0x400921fb54442d18) ≡ (neg (double 0x3ff0000000000000))) × (C (double 0x4000000000000000) ≡ (neg (double 0x3fdaa22657537208)))
 unfolding C series clampOf isNan ofBits neg lt ofInt sub mul div
 cosine-are = (refl, refl, refl, refl)
+
+-- E at -693.8131171797552, S at 3.1086768213123666, C at 3.004452144873332: a term less or more, or another order of a term's operations, would be another double
+terms-are : (E (neg (double 0x4085ae81439476ea)) ≡ double 0x016070fc1394e580) × (S (double 0x4008de91f40af574) ≡ double 0x3fa0d990a053182e) × (C (double 0x4008091e34c5062d) ≡ (neg (double 0x3fefb315c6b623ce)))
+unfolding E terms squared S C reducedAngle wholePart series clampOf isNan ofBits neg lt ofInt round add sub mul div
+terms-are = (refl, refl, refl)
