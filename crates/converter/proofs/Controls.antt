@@ -56,3 +56,28 @@ vsc-are = (refl, refl, refl, refl, refl)
 idle-is : vscPoint (station TwoLevelVsc 0) one nought ≡ point 0x3ff0000000000000 0x3eb0c6f7a0b5ed8d 0x412e848000000000 0x404859c7e33b31ac 0x3ff0000000000000 0x426d1a94d2d40800
 unfolding vscPoint station point double modulation lossFactor rootOf floorRoot nearestRoot size clampOf maxOf absOf isNan lt ofBits ofInt round neg add sub mul div
 idle-is = refl
+
+-- at the voltage whose AC voltage is 1e-6 there is none yet
+edge-is : vscPoint (station TwoLevelVsc 0) one (double 0x3eb48c3d3a26c4f6) ≡ point 0x3ff0000000000000 0x3eb48c3d3a26c4f6 0x4128eae1296f5be2 0x404859c7e33b31ac 0x3ff0000000000000 0x4263670de9339265
+unfolding vscPoint station point double modulation lossFactor rootOf floorRoot nearestRoot size clampOf maxOf absOf isNan lt ofBits ofInt round neg add sub mul div
+edge-is = refl
+
+-- a rated voltage of 3e-7 kV, which no study accepts, counts as 1e-6 where it divides
+unrated : ConverterStation
+unrated =
+    record {
+      id = 7;
+      topology = TwoLevelVsc;
+      «v_dc_rated_kv» = decimal 3 10000000;
+      «p_rated_mw» = decimal 50 1;
+      «x_transformer_pu» = nought;
+      scr = nought;
+      «control_angle_deg» = nought;
+      «x_commutation_pu» = nought;
+      «arm_inductance_mh» = nought;
+      «sm_capacitance_uf» = nought;
+    }
+
+unrated-is : vscPoint unrated (neg (decimal 123 10)) (decimal 973 10) ≡ point 0xc02899999999999a 0x4058533333333333 0xbfc02e4e67a9b3b4 0x404ca5dc1a63c1f9 0x3ff0000000000000 0x3fd000000022bf89
+unfolding vscPoint unrated point double modulation lossFactor rootOf floorRoot nearestRoot size clampOf maxOf absOf isNan lt ofBits ofInt round neg add sub mul div
+unrated-is = refl
