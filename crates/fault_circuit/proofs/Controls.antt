@@ -18,7 +18,7 @@ use Rattle.grid.specs.declared.simulator.DcSwitchingSimulator.{DcSwitchingSimul
 use Rattle.fault_circuit.specs.declared.parameters.RlcParameters.{RlcParameters}
 use Rattle.fault_circuit.specs.declared.circuit.FaultCircuit.{FaultCircuit}
 use Rattle.fault_circuit.specs.declared.circuit.Response.the-variants.{Underdamped, Overdamped, Critical, Still}
-use Rattle.fault_circuit.specs.Parameters.{parametersAt}
+use Rattle.fault_circuit.specs.Parameters.{parametersAt, parametersOf}
 use Rattle.fault_circuit.specs.Circuit.{responseOf, underdampedResponse, overdampedResponse, typeFactor, circuitAt, circuitOf}
 use Rattle.fault_circuit.specs.Current.{amperesBy, currentBy, currentOf, decayedBy, decayedOf}
 
@@ -116,3 +116,24 @@ beside-least-is = (refl, refl)
 still-is : responseOf (parameters (decimal (10 ^ 15) 1) (decimal (10 ^ 19) 1) (decimal 1 100)) ≡ Still
 unfolding parameters responseOf underdampedResponse overdampedResponse rootOf floorRoot nearestRoot size maxOf absOf isNan lt ofBits round neg add sub mul div
 still-is = refl
+
+-- 10 ^ 10 H and 10 ^ 10 F, which no accepted grid has either: a frequency of 1e-10, and not none
+slow : FaultCircuit
+slow = circuitAt (parameters (decimal (10 ^ 13) 1) (decimal (10 ^ 16) 1) (decimal 1 100)) PoleToPole one
+
+slow-is : currentOf slow (decimal (10 ^ 12) 1) ≡ double 0x403fee44037782fa
+unfolding slow parameters double circuitAt responseOf underdampedResponse overdampedResponse typeFactor currentBy amperesBy E terms squared S series reducedAngle wholePart rootOf floorRoot nearestRoot size clampOf maxOf absOf isNan lt ofBits ofInt round neg add sub mul div
+slow-is = refl
+
+-- 1 mH and 10 ^ 7 Ω: a time constant of 1e-10 s counts as 1e-9. Of 3 kA that are cleared at 2 ms, what is left a nanosecond later.
+short : FaultCircuit
+short = circuitAt (parameters one (decimal 1 100) (decimal (10 ^ 7) 1)) PoleToPole one
+
+short-is : decayedOf short (decimal 3 1) (decimal 2 1) (decimal 2000001 (10 ^ 6)) ≡ double 0x3ff1a880a8971a3a
+unfolding short parameters double circuitAt decayedBy E terms squared maxOf isNan lt ofBits ofInt round neg add sub mul div
+short-is = refl
+
+-- a fraction of 1.5, which no study accepts, counts as 1
+past-the-end-is : parametersOf (grid (station 50 100 ∷ station 0 0 ∷ []) 1 100 2) (fault PoleToPole 15 0) ≡ parameters (decimal 151 1) (decimal 30 1) one
+unfolding grid station fault parameters parametersAt clampOf maxOf isNan lt ofBits ofInt round add mul div
+past-the-end-is = refl
