@@ -11,6 +11,7 @@ use Rattle.grid.specs.declared.parts.ConverterTopology.the-variants.{Lcc, TwoLe
 use Rattle.grid.specs.declared.parts.ConverterStation.{ConverterStation}
 use Rattle.converter.specs.declared.point.ConverterOperatingPoint.{ConverterOperatingPoint}
 use Rattle.converter.specs.Lcc.{lccPoint}
+use Rattle.converter.specs.Point.{blankPoint}
 use Rattle.converter.specs.Vsc.{vscPoint, modulation, lossFactor}
 
 double : ℕ → Float
@@ -81,3 +82,8 @@ unrated =
 unrated-is : vscPoint unrated (neg (decimal 123 10)) (decimal 973 10) ≡ point 0xc02899999999999a 0x4058533333333333 0xbfc02e4e67a9b3b4 0x404ca5dc1a63c1f9 0x3ff0000000000000 0x3fd000000022bf89
 unfolding vscPoint unrated point double modulation lossFactor rootOf floorRoot nearestRoot size clampOf maxOf absOf isNan lt ofBits ofInt round neg add sub mul div
 unrated-is = refl
+
+-- beside a refusal
+blank-is : blankPoint ≡ record { «station_id» = 0; «p_dc_mw» = double 0; «v_dc_kv» = double 0; «i_dc_ka» = double 0; «firing_angle_deg» = double 0; «power_factor» = double 0; «losses_mw» = double 0 }
+unfolding double ofBits
+blank-is = refl

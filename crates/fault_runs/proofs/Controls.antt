@@ -196,3 +196,13 @@ refused-are
     × (advancedFaultRun blankFaultRun 9 (numbers 10) ≡ answer Refused 0 0 blankFaultRun)
 unfolding advancedFaultRun answerOf memoryOf faultRunRefused startedFaultRun blankFaultRun faultRefusal first broken tooManyParts timeOutside tooManySteps stationOutside cableOutside breakerOutside topologyOk stationOk cableOk breakerTypeOk breakerOk faultOk realIn wholeIn stepsOf roundedUp run variables answer numbers fault grid station whole blank maxOf isNan le lt eq ofInt ofBits round div
 refused-are = (refl, refl, refl, refl, refl)
+
+-- beside a refusal: zeros and no
+blank-is
+    : (faultFigures blankFaultRun ≡ record { «peak_fault_current_ka» = whole 0; «fault_clearing_time_ms» = whole 0; «energy_dissipated_mj» = whole 0; «voltage_recovery_time_ms» = whole 0; «max_di_dt» = whole 0; «fault_cleared» = false })
+    × (blankFaultRun .«steps_made» ≡ 0)
+    × (blankFaultRun .fault ≡ record { «fault_type» = PoleToGround; «location_cable_id» = 0; «location_fraction» = whole 0; «fault_resistance» = whole 0; «inception_time_ms» = whole 0 })
+    × (blankFaultRun .variables .«prev_fault_current_ka» ≡ whole 0)
+    × (blankFaultRun .variables .«fault_active» ≡ false)
+unfolding faultFigures blankFaultRun whole stepsOf roundedUp maxOf isNan lt ofBits round div
+blank-is = (refl, refl, refl, refl, refl)

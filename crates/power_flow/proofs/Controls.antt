@@ -1,7 +1,9 @@
 -- Worked examples of the definitions: they are believed, so a wrong clause need break no other proof. The answers are the published Rust's.
 use mathlib.Core.Path.{_≡_, refl, ap, _∙_}
+use mathlib.Core.Bool.{false}
 use mathlib.Core.List.{List, [], _∷_}
 use Prim.Native.Nat.{ℕ}
+use lib.ListN.{length, replicate}
 use lib.Ieee.{Float, ofBits, ofInt, round, neg, add, sub, mul, div, lt, eq, isNan, size}
 use Rattle.float64.specs.Choice.{maxOf, minOf, absOf, clampOf}
 use Rattle.square_root.specs.Root.{rootOf, floorRoot, nearestRoot}
@@ -13,6 +15,7 @@ use Rattle.conductances.specs.Conductances.{entry, matrix}
 use Rattle.flow_voltages.specs.Balance.{current}
 use Rattle.conductances.proofs.Samples.{double, station, cable, cells, read, matrix-read, stations, cables}
 use Rattle.power_flow.specs.Solution.{isLcc, operatingPoint, pointOf, cableLoss, lossOf, totalLosses}
+use Rattle.power_flow.specs.Flow.{blankSolution}
 
 -- points and losses at the voltages that the passes find
 found : List Float
@@ -42,3 +45,13 @@ losses-are
     × (totalLosses stations 3 cables 6 (matrix 3 cables) found ≡ double 0x3e54e6711fbc2956)
 unfolding stations cables found station cable double read cells entry current cableLoss totalLosses isLcc operatingPoint lccPoint vscPoint modulation lossFactor rootOf floorRoot nearestRoot size C series maxOf minOf absOf clampOf isNan lt eq ofBits ofInt round neg add sub mul div
 losses-are = (refl, refl, refl, refl, refl, refl, ap (λ m. totalLosses stations 3 cables 6 m found) (matrix-read 3 cables) ∙ refl)
+
+-- beside a refusal
+blank-is
+    : (length (blankSolution .«operating_points») ≡ 32)
+    × (blankSolution .«cable_losses_mw» ≡ replicate 64 (double 0))
+    × (blankSolution .«total_losses_mw» ≡ double 0)
+    × (blankSolution .converged ≡ false)
+    × (blankSolution .iterations ≡ 0)
+unfolding double ofBits
+blank-is = (refl, refl, refl, refl, refl)

@@ -3,3 +3,4 @@ pub mod Portions
 pub mod Refusals
 pub mod Claims
 pub mod Tied
+mod Controls

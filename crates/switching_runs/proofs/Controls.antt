@@ -22,7 +22,7 @@ use Rattle.state_derivatives.specs.Derivatives.{derivatives}
 use Rattle.transient.specs.Rk4.{ahead, blended, rk4, raised, newState, stepBy}
 use Rattle.switching_step.specs.Switching.{operatedState, switchBody, switchingBody, beforeSwitching, switchingAfter}
 use Rattle.records.specs.Records.{recordWith}
-use Rattle.switching_runs.specs.SwitchingRuns.{switchingRunRefused, nextSwitchingRun, switchingRecords, switchingStepper, switchingRunAfter, startedSwitchingRun}
+use Rattle.switching_runs.specs.SwitchingRuns.{switchingRunRefused, nextSwitchingRun, switchingRecords, switchingStepper, switchingRunAfter, startedSwitchingRun, blankSwitchingRun}
 
 whole : ℕ → Float
 whole n = decimal n 1
@@ -55,3 +55,12 @@ switching-are
     × (memoryOf switchingStepper (switchingRunAfter alone 7 false 0) 1 (numbers 5) ≡ whole 0 ∷ whole 0 ∷ whole 100 ∷ whole 0 ∷ whole 1 ∷ [])
 unfolding answerOf memoryOf joined advance switchingRunRefused startedSwitchingRun switchingRecords nextSwitchingRun recordWith tab padded over beforeSwitching switchingAfter switchingBody switchBody operatedState derivatives ahead blended rk4 raised newState stepBy ownCapacitance joinedCapacitance switchingRefusal first broken tooManyParts timeOutside tooManySteps stationOutside cableOutside breakerOutside topologyOk stationOk cableOk breakerTypeOk breakerOk realIn wholeIn stepsOf roundedUp alone numbers station whole blank maxOf isNan le lt eq ofInt ofBits round neg add sub mul div
 switching-are = (refl, refl, refl)
+
+-- beside a refusal: zeros and no
+blank-is
+    : (blankSwitchingRun .«breaker_id» ≡ 0)
+    × (blankSwitchingRun .«open» ≡ false)
+    × (blankSwitchingRun .«steps_made» ≡ 0)
+    × (blankSwitchingRun .variables .switched ≡ false)
+unfolding blankSwitchingRun
+blank-is = (refl, refl, refl, refl)
