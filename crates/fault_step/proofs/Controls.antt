@@ -133,6 +133,14 @@ steps-are
 unfolding double state variables stepped run after1 after2 after3 after5 after6 after7 after8 after9 body whileFaulted afterClearing beforeInception tab blank over maxOf minOf absOf isNan lt le eq ofBits ofInt round neg add sub mul div
 steps-are = (refl, refl, refl, refl, refl, refl)
 
+-- cleared and never active, as only a run that is put together by hand can be: active from inception on
+unseen : FaultVariables
+unseen = variables (after6 .state) 0 0 0 0 0 0 true false
+
+unseen-is : (body run 2 unseen .«fault_active» ≡ false) × (body run 3 unseen .«fault_active» ≡ true)
+unfolding double variables run unseen body afterClearing le ofBits ofInt round mul
+unseen-is = (refl, refl)
+
 -- a fault that was active stays so; voltages at 90 percent have recovered, and one below keeps all back; the cable's current is none of them
 tests-are
     : (activeAt run nought after2 ≡ false)
