@@ -10,10 +10,10 @@ use fault_step::FaultVariables;
 use fault_step::fault_step;
 
 // The steps from the number `first` up to `end`, which is not made.
-pub fn case_steps(plan: FaultPlan, first: u64, end: u64, open: OpenCase) -> OpenCase
-    ensures { λ r. ⌜ r ≡ planCaseFrom plan first open (end - first) ⌝ }
+pub fn case_steps(plan: FaultPlan, first: u64, end: u64, start: OpenCase) -> OpenCase
+    ensures { λ r. ⌜ r ≡ planCaseFrom plan first start (end - first) ⌝ }
 {
-    let mut c = open;
+    let mut c = start;
     let mut step = first;
     while step < end {
         c = case_step(plan, step, c);

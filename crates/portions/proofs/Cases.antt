@@ -16,11 +16,11 @@ use Rattle.portions.specs.Cases.{Cases, KeptCase, toList, isSome, caseAf
 use Rattle.portions.proofs.Multiples.{which, end-mod, end-div, stay-mod, stay-div, stay-below, div-below}
 
 module _ {A : Type 0} where
-  one-or-none : (o : Option (List A)) → length (toList o) ≡ cond (isSome o) 1 0
+  pub one-or-none : (o : Option (List A)) → length (toList o) ≡ cond (isSome o) 1 0
   one-or-none none = refl
   one-or-none (some r) = refl
 
-  one-sized : (size : ℕ) (o : Option (List A)) → ((r : List A) → o ≡ some r → length r ≡ size) → length (joined (toList o)) ≡ size * length (toList o)
+  pub one-sized : (size : ℕ) (o : Option (List A)) → ((r : List A) → o ≡ some r → length r ≡ size) → length (joined (toList o)) ≡ size * length (toList o)
   unfolding joined
   one-sized size none f = sym (mul-zero size)
   one-sized size (some r) f = rw (append-nil, mul-one) (f r refl)
