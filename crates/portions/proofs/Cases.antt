@@ -16,7 +16,7 @@ use Rattle.portions.specs.Cases.{Cases, KeptCase, toList, isSome, caseAf
 use Rattle.portions.proofs.Multiples.{which, end-mod, end-div, stay-mod, stay-div, stay-below, div-below}
 
 module _ {A : Type 0} where
-  pub one-or-none : (o : Option (List A)) → length (toList o) ≡ cond (isSome o) 1 0
+  one-or-none : (o : Option (List A)) → length (toList o) ≡ cond (isSome o) 1 0
   one-or-none none = refl
   one-or-none (some r) = refl
 
