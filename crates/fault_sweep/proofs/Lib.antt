@@ -1,0 +1,5 @@
+mod Accepted
+mod Shown
+mod SweepLoop
+mod Rows
+mod Fresh
