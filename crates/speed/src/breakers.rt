@@ -2,8 +2,6 @@
 use crate::grids;
 use crate::requests::Request;
 use breaker_times::fastest_breaker_clearing_ms;
-use grid::DcBreaker;
-use grid::DcBreakerType;
 use grid::DcSwitchingSimulator;
 use rules::check_fault;
 
@@ -15,13 +13,7 @@ pub fn sum_of_times(r: Request) -> f64 {
     let mut ms = r.first;
     let mut left = r.count;
     while 0 < left {
-        let b = grid.breakers[0];
-        grid.breakers[0] = DcBreaker {
-            breaker_type: DcBreakerType::Mechanical {
-                opening_time_ms: ms,
-            },
-            ..b
-        };
+        grid.breakers[0] = grids::breaker(0, ms);
         grid.duration_ms = ms;
         sum += found_at(r.work, grid, ms);
         ms += r.step;

@@ -1,7 +1,6 @@
 // Flows.
 use crate::grids;
 use crate::requests::Request;
-use grid::ConverterStation;
 use grid::DcSwitchingSimulator;
 use power_flow::solve_dc_power_flow;
 use std::num::nearest_u64_to_f64;
@@ -13,11 +12,9 @@ pub fn sum_losses(r: Request) -> f64 {
     let mut mw = r.first;
     let mut left = r.count;
     while 0 < left {
-        let s = grid.stations[1];
-        grid.stations[1] = ConverterStation {
-            p_rated_mw: mw,
-            ..s
-        };
+        let mut station = grid.stations[1];
+        station.p_rated_mw = mw;
+        grid.stations[1] = station;
         sum += losses_and_passes(grid);
         mw += r.step;
         left -= 1;

@@ -1,5 +1,4 @@
 // Grids that every rule accepts, and a fault on their first cable.
-use crate::requests::Request;
 use grid::ConverterStation;
 use grid::ConverterTopology;
 use grid::DcBreaker;
@@ -40,7 +39,7 @@ fn with_station(g: DcSwitchingSimulator, o: Order, i: u64) -> DcSwitchingSimulat
     if o.stations <= i {
         return g;
     }
-    let added = g.add_station(station(i, o.power_mw));
+    let added = g.add_station(station(i, topology(i), o.power_mw));
     added.grid
 }
 
@@ -60,15 +59,18 @@ fn with_breaker(g: DcSwitchingSimulator, o: Order, i: u64) -> DcSwitchingSimulat
     added.grid
 }
 
-// The four topologies in turn.
-pub fn station(id: u64, p_rated_mw: f64) -> ConverterStation {
+// The four in turn.
+fn topology(id: u64) -> ConverterTopology {
     let kind = id % 4;
-    let topology = match kind {
+    match kind {
         0 => ConverterTopology::Lcc,
         1 => ConverterTopology::TwoLevelVsc,
         2 => ConverterTopology::Mmc { n_submodules: 200 },
         _ => ConverterTopology::Hybrid,
-    };
+    }
+}
+
+pub fn station(id: u64, topology: ConverterTopology, p_rated_mw: f64) -> ConverterStation {
     ConverterStation {
         id,
         topology,
@@ -104,8 +106,8 @@ fn around(k: u64, stations: u64) -> u64 {
     k % stations
 }
 
-// The three kinds in turn.
-fn breaker(id: u64, ms: f64) -> DcBreaker {
+// The three kinds in turn: the first is mechanical.
+pub fn breaker(id: u64, ms: f64) -> DcBreaker {
     let kind = id % 3;
     let breaker_type = match kind {
         0 => DcBreakerType::Mechanical {

@@ -1,6 +1,6 @@
 // Requests in, answers out. A request is 13 lines of a number each, right-justified in 21 columns after spaces, then a line feed. Doubles are given
 // by their bits.
-ghost use Prim.Native.Nat.{_≤_};
+ghost use Prim.Native.Nat.{_<_};
 use crate::grids::Order;
 use libc::STDIN_FILENO;
 use libc::STDOUT_FILENO;
@@ -10,9 +10,9 @@ const COLUMNS: usize = 21;
 // With the line feed.
 const LINE: usize = COLUMNS + 1;
 
-const ROOM: usize = 13 * LINE;
-// Where the last line starts.
-const LAST: usize = ROOM - LINE;
+const LINES: usize = 13;
+
+const ROOM: usize = LINES * LINE;
 
 // Which work is done, how often, at which argument first and how much more in each turn after it, and on which grid and fault. Where the input has
 // ended, the rest means nothing.
@@ -32,38 +32,39 @@ pub fn read() -> Request {
     Request {
         ended: end < ROOM,
         work: number_at(&lines, 0),
-        count: number_at(&lines, LINE),
-        first: double_at(&lines, 2 * LINE),
-        step: double_at(&lines, 3 * LINE),
-        inception_ms: double_at(&lines, 4 * LINE),
+        count: number_at(&lines, 1),
+        first: double_at(&lines, 2),
+        step: double_at(&lines, 3),
+        inception_ms: double_at(&lines, 4),
         order: order_of(&lines),
     }
 }
 
 fn order_of(lines: &[u8; ROOM]) -> Order {
     Order {
-        dt_us: double_at(lines, 5 * LINE),
-        duration_ms: double_at(lines, 6 * LINE),
-        stations: number_at(lines, 7 * LINE),
-        cables: number_at(lines, 8 * LINE),
-        breakers: number_at(lines, 9 * LINE),
-        power_mw: double_at(lines, 10 * LINE),
-        ohms_per_km: double_at(lines, 11 * LINE),
-        breaker_ms: double_at(lines, 12 * LINE),
+        dt_us: double_at(lines, 5),
+        duration_ms: double_at(lines, 6),
+        stations: number_at(lines, 7),
+        cables: number_at(lines, 8),
+        breakers: number_at(lines, 9),
+        power_mw: double_at(lines, 10),
+        ohms_per_km: double_at(lines, 11),
+        breaker_ms: double_at(lines, 12),
     }
 }
 
-fn double_at(lines: &[u8; ROOM], at: usize) -> f64
-    requires { do ⌜ at ≤ (← ⟦LAST⟧) ⌝ }
+fn double_at(lines: &[u8; ROOM], line: usize) -> f64
+    requires { do ⌜ line < (← ⟦LINES⟧) ⌝ }
 {
-    float64::from_bits(number_at(lines, at))
+    float64::from_bits(number_at(lines, line))
 }
 
-// The number in the line that starts at `at`. A space counts as a 0. What is no digit, or too many of them, gives some number: the requests are the
+// The number in a line, counted from 0. A space counts as a 0. What is no digit, or too many of them, gives some number: the requests are the
 // timing program's own.
-fn number_at(lines: &[u8; ROOM], at: usize) -> u64
-    requires { do ⌜ at ≤ (← ⟦LAST⟧) ⌝ }
+fn number_at(lines: &[u8; ROOM], line: usize) -> u64
+    requires { do ⌜ line < (← ⟦LINES⟧) ⌝ }
 {
+    let at = line * LINE;
     let mut n = 0;
     let mut i = 0;
     while i < COLUMNS {

@@ -4,7 +4,6 @@ use crate::requests::Request;
 use fault_circuit::FaultCircuit;
 use fault_circuit::fault_circuit;
 use fault_circuit::fault_current_ka;
-use grid::ConverterStation;
 use grid::ConverterTopology;
 use operating_points::lcc_operating_point;
 use operating_points::vsc_operating_point;
@@ -37,11 +36,8 @@ fn value(work: u64, circuit: FaultCircuit, x: f64, left: u64) -> f64 {
 
 // Control angle and current are x: past 180 all is refused.
 fn lcc_value(x: f64) -> f64 {
-    let s = grids::station(0, 1000.0);
-    let station = ConverterStation {
-        control_angle_deg: x,
-        ..s
-    };
+    let mut station = grids::station(0, ConverterTopology::Lcc, 1000.0);
+    station.control_angle_deg = x;
     let answer = lcc_operating_point(station, x);
     let point = answer.point;
     point.p_dc_mw + point.power_factor + point.losses_mw
@@ -49,14 +45,10 @@ fn lcc_value(x: f64) -> f64 {
 
 // The power is x, and the submodules are others in each turn, so that the root of their number is taken anew.
 fn vsc_value(x: f64, left: u64) -> f64 {
-    let s = grids::station(0, 1000.0);
-    let station = ConverterStation {
-        topology: ConverterTopology::Mmc {
-            n_submodules: left % 400,
-        },
-        ..s
+    let mmc = ConverterTopology::Mmc {
+        n_submodules: left % 400,
     };
-    let answer = vsc_operating_point(station, x, 320.0);
+    let answer = vsc_operating_point(grids::station(0, mmc, 1000.0), x, 320.0);
     let point = answer.point;
     point.i_dc_ka + point.firing_angle_deg + point.losses_mw
 }

@@ -11,7 +11,7 @@ sum-of-times-spec =
     (λ r grid₀ sum₀ ms₀ left₀ grid sum ms left. left)
     (λ c κs. search needs)
     (λ c. search needs)
-    (λ c. search needs)
+    (λ c κs. search needs)
     (λ c. search needs)
     (λ c κs. search needs)
     (λ c. search needs)

@@ -8,8 +8,9 @@ pub number-at-spec : {M : Type 1} → statement M
 number-at-spec =
     tie.close
     (tie.spec
-    (λ lines at n₀ i₀ n i. i ≤ 21)
-    (λ lines at n₀ i₀ n i. 21 - i)
+    (λ lines line at n₀ i₀ n i. i ≤ 21)
+    (λ lines line at n₀ i₀ n i. 21 - i)
+    (λ c. search needs)
     (λ c. search needs)
     (λ c. search needs)
     (λ c. search needs)
