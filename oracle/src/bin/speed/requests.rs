@@ -214,7 +214,7 @@ fn points() -> Vec<Row> {
 const LOADS: [(f64, f64, f64); 2] = [(1e-6, 4e-6, 1e-12), (19_000.0, 19_000.0, 0.001)];
 
 /// How many flows are solved in a round, by the grid.
-const SOLVED: [u64; 3] = [20_000, 2_000, 500];
+const SOLVED: [u64; 3] = [2_000, 400, 100];
 
 fn flows() -> Vec<Row> {
     let mut rows = Vec::new();
