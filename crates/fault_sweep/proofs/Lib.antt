@@ -3,3 +3,4 @@ mod Shown
 mod SweepLoop
 mod Rows
 mod Fresh
+pub mod Claims
