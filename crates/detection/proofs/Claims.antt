@@ -41,8 +41,12 @@ module _ (g : DcSwitchingSimulator) (s before : DcTransientState) (few : g .«n_
   by-table =
       let n : min (g .«n_stations») 32 ≡ g .«n_stations» = omega arith in
       let m : min (g .«n_cables») 64 ≡ g .«n_cables» = omega arith in
-      rw (n, m, some-same (λ i. low (of (s .y) i) (of (padded 96 (g .«n_stations») (rated (g .stations)) nought) i)) (lowStation (g .stations) (s .y)) (g .«n_stations»)
-      (λ i l. rw (getD-padded 96 (g .«n_stations») (rated (g .stations)) nought nan i l (omega arith))))
+      rw (
+        n,
+        m,
+        some-same (λ i. low (of (s .y) i) (of (padded 96 (g .«n_stations») (rated (g .stations)) nought) i)) (lowStation (g .stations) (s .y)) (g .«n_stations»)
+            (λ i l. rw (getD-padded 96 (g .«n_stations») (rated (g .stations)) nought nan i l (omega arith))),
+      )
 
 pub detection-claims : DetectionClaims
 unfolding detected detection

@@ -41,7 +41,7 @@ use Rattle.fault_sweep.proofs.Shown.{swept}
 
 -- ---- lists of calls
 
-last-and : {K : Type 0} (s : K) (cs : List (Called ℕ K)) (c : Called ℕ K) → last s (and cs c) ≡ c .kept
+pub last-and : {K : Type 0} (s : K) (cs : List (Called ℕ K)) (c : Called ℕ K) → last s (and cs c) ≡ c .kept
 unfolding last
 last-and s [] c = refl
 last-and s (d ∷ cs) c = last-and (d .kept) cs c

@@ -4,3 +4,5 @@ mod SweepLoop
 mod Rows
 mod Fresh
 pub mod Claims
+pub mod Refusals
+pub mod Tied

@@ -194,7 +194,14 @@ fn put_case(
     let place = case_place(order, k);
     let outcome = case_outcome(c);
     let reasons = reasons_for(g, place.cable, outcome);
-    put_row(rows, ROW_LENGTH * out, place, reasons, outcome, loss_of(flow, place.cable))
+    put_row(
+        rows,
+        ROW_LENGTH * out,
+        place,
+        reasons,
+        outcome,
+        loss_of(flow, place.cable),
+    )
 }
 
 // The flow's loss in a cable; zero past the last place.
