@@ -91,8 +91,6 @@ const LOOP: (&str, &str) = (
     "for step in 0..total_steps.min(steps) {",
 );
 
-const LIBRARY: &str = "../target/staticlib";
-
 fn edited(published: &str) -> String {
     let mut text = published.to_string();
     for (find, replace, times) in EDITS {
@@ -175,10 +173,4 @@ fn main() {
         format!("#[path = {module:?}]\npub mod dc_switching;\n"),
     )
     .expect("the module is declared");
-
-    if env::var("CARGO_FEATURE_SPEED").is_ok() {
-        let top = env::var("CARGO_MANIFEST_DIR").expect("cargo names the package");
-        println!("cargo:rerun-if-changed={LIBRARY}/libspeed.a");
-        println!("cargo:rustc-link-search=native={top}/{LIBRARY}");
-    }
 }

@@ -8,6 +8,8 @@ use denote.Triple.Clauses.{AtExit}
 use Rattle.rules.specs.Studies.{numberOf}
 use Rattle.detection.specs.Detection.{detected}
 use Rattle.detection.proofs.Claims.{detection-claims}
+use Rattle.detection.proofs.detect.detects as detects-contract
+use Rattle.detection.proofs.detect.detects.Reads as detects-reads
 use Rattle.detection.proofs.detect.detect_fault as detect-contract
 use Rattle.detection.proofs.detect.detect_fault.Kinds as kinds
 use Rattle.detection.proofs.detect.detect_fault.Reads as reads
@@ -18,3 +20,7 @@ module _ (κs : Lfts 0) (a : ArgsD detect-contract.signature κs) (r : ResD dete
 
   pub detect-accepted : reads.Learnt κs a r e → numberOf (r .verdict) ≡ 0 → r .detected ≡ detected (a .0) (a .1 .0) (a .1 .1 .0)
   detect-accepted h k = h .1 ∙ detection-claims .accepted (a .0) (a .1 .0) (a .1 .1 .0) (sym (h .0) ∙ k)
+
+module _ (κs : Lfts 1) (a : ArgsD detects-contract.signature κs) where
+  pub detects-any : detects-reads.Asked κs a
+  detects-any = tt

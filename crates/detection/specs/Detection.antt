@@ -11,6 +11,7 @@ use Rattle.float64.specs.Choice.{maxOf, absOf}
 use Rattle.grid.specs.Simulator.{blankStation}
 use Rattle.grid.specs.declared.parts.ConverterStation.{ConverterStation}
 use Rattle.grid.specs.declared.simulator.DcSwitchingSimulator.{DcSwitchingSimulator}
+use Rattle.network.specs.Network.{stationCount, cableCount}
 use Rattle.rules.specs.Studies.{detectionRefusal}
 use Rattle.state_derivatives.specs.declared.state.DcTransientState.{DcTransientState}
 use Rattle.detection.specs.Constants.{leastTime, fastest, lowest}
@@ -38,6 +39,13 @@ unfoldable pub detected : DcSwitchingSimulator → DcTransientState → DcTransi
 detected g s before =
     some (g .«n_cables») (fastCable (g .«n_stations») (timeBetween (s .«time_ms») (before .«time_ms»)) (s .y) (before .y))
     || some (g .«n_stations») (lowStation (g .stations) (s .y))
+
+-- the same by the rated voltages in a table, whatever the counts
+unfoldable pub detectedBy : List Float → (stations cables : ℕ) → DcTransientState → DcTransientState → Bool
+detectedBy rated stations cables s before =
+    let n = stationCount stations in
+    some (cableCount cables) (fastCable n (timeBetween (s .«time_ms») (before .«time_ms»)) (s .y) (before .y))
+    || some n (λ i. low (of (s .y) i) (of rated i))
 
 -- no, where the grid is refused
 unfoldable pub detection : DcSwitchingSimulator → DcTransientState → DcTransientState → Bool

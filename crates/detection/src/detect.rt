@@ -4,14 +4,15 @@ ghost use Prim.Native.Nat.{_≤_, _+_};
 ghost use Rattle.lists.specs.Scans.{some};
 ghost use Rattle.float64.specs.Arithmetic.{of};
 ghost use Rattle.rules.specs.Studies.{numberOf, detectionRefusal};
-ghost use Rattle.detection.specs.Detection.{timeBetween, fast, low, lowStation, detection};
+ghost use Rattle.detection.specs.Detection.{timeBetween, fast, low, detectedBy, detection};
 use float64::abs;
 use float64::max;
-use grid::ConverterStation;
 use grid::DcSwitchingSimulator;
+use grid::present;
 use rules::Verdict;
 use rules::check_detection;
 use rules::number;
+use run_start::rated_voltages;
 use state_derivatives::DcTransientState;
 
 // Nothing is detected where the grid is refused.
@@ -30,21 +31,36 @@ pub fn detect_fault(
 {
     let verdict = check_detection(g);
     if number(verdict) == 0 {
-        let y = state.y;
-        let before = prev.y;
-        let stations = g.stations;
-        let dt_ms = time_between(state.time_ms, prev.time_ms);
-        let fast = some_current_fast(&y, &before, dt_ms, g.n_stations, g.n_cables);
-        let low = some_voltage_low(stations, &y, g.n_stations);
+        let rated = rated_voltages(g);
         return DetectionAnswer {
             verdict,
-            detected: fast | low,
+            detected: detects(&rated, g.n_stations, g.n_cables, state, prev),
         };
     }
     DetectionAnswer {
         verdict,
         detected: false,
     }
+}
+
+// Of a grid that is known to be accepted, by its counts and its rated voltages: what a sweep asks after each step.
+pub fn detects(
+    rated_kv: &[f64; 96],
+    n_stations: usize,
+    n_cables: usize,
+    state: DcTransientState,
+    prev: DcTransientState,
+) -> bool
+    ensures { λ r. ⌜ r ≡ detectedBy (now («rated_kv» .entry)) «n_stations» «n_cables» state prev ⌝ }
+{
+    let n = present(n_stations, 32);
+    let m = present(n_cables, 64);
+    let y = state.y;
+    let before = prev.y;
+    let dt_ms = time_between(state.time_ms, prev.time_ms);
+    let fast = some_current_fast(&y, &before, dt_ms, n, m);
+    let low = some_voltage_low(rated_kv, &y, n);
+    fast | low
 }
 
 fn time_between(time_ms: f64, before_ms: f64) -> f64
@@ -80,14 +96,13 @@ fn is_fast(dt_ms: f64, current: f64, before: f64) -> bool
     abs(current - before) / dt_ms > 10.0
 }
 
-fn some_voltage_low(stations: [ConverterStation; 32], y: &[f64; 96], n_stations: usize) -> bool
+fn some_voltage_low(rated_kv: &[f64; 96], y: &[f64; 96], n_stations: usize) -> bool
     requires { ⌜ «n_stations» ≤ 32 ⌝ }
-    ensures { λ r. ⌜ r ≡ some «n_stations» (lowStation stations (now (y .entry))) ⌝ }
+    ensures { λ r. ⌜ r ≡ some «n_stations» (λ i. low (of (now (y .entry)) i) (of (now («rated_kv» .entry)) i)) ⌝ }
 {
     let mut i = 0;
     while i < n_stations {
-        let s = stations[i];
-        if is_low(y[i], s.v_dc_rated_kv) {
+        if is_low(y[i], rated_kv[i]) {
             return true;
         }
         i += 1;

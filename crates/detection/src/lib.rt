@@ -3,3 +3,4 @@ mod detect;
 
 pub use detect::DetectionAnswer;
 pub use detect::detect_fault;
+pub use detect::detects;

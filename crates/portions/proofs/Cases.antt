@@ -20,7 +20,7 @@ module _ {A : Type 0} where
   one-or-none none = refl
   one-or-none (some r) = refl
 
-  one-sized : (size : ℕ) (o : Option (List A)) → ((r : List A) → o ≡ some r → length r ≡ size) → length (joined (toList o)) ≡ size * length (toList o)
+  pub one-sized : (size : ℕ) (o : Option (List A)) → ((r : List A) → o ≡ some r → length r ≡ size) → length (joined (toList o)) ≡ size * length (toList o)
   unfolding joined
   one-sized size none f = sym (mul-zero size)
   one-sized size (some r) f = rw (append-nil, mul-one) (f r refl)

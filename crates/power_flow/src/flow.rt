@@ -73,7 +73,8 @@ fn solution_at(g: DcSwitchingSimulator, found: Found) -> DcGridSolution
     }
 }
 
-fn no_solution() -> DcGridSolution
+// All zeros: what stands beside a refusal.
+pub fn no_solution() -> DcGridSolution
     ensures { λ r. ⌜ r ≡ blankSolution ⌝ }
 {
     DcGridSolution {

@@ -4,4 +4,5 @@ mod solution;
 
 pub use flow::DcGridSolution;
 pub use flow::FlowAnswer;
+pub use flow::no_solution;
 pub use flow::solve_dc_power_flow;

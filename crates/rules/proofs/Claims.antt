@@ -3,26 +3,27 @@ use Prim.Native.Nat.{ℕ, _-_, _≤_}
 use native.Mathlib.Omega.{arith}
 use mathlib.Core.Path.{_≡_, refl, sym, ap, _∙_}
 use mathlib.Core.Logic.{_↔_}
-use mathlib.Core.Bool.{Bool, true, false, not}
-use mathlib.Core.List.{List, [], _∷_}
-use borrow.Author.Tests.{ltb-false, not-true, not-false}
-use lib.Dec.{ltb}
+use mathlib.Core.Bool.{Bool, true, false, not, cond}
+use mathlib.Core.List.{List, [], _∷_, _++_}
+use borrow.Author.Tests.{eq-eqb, ne-eqb, ltb-false, not-true, not-false}
+use lib.Dec.{eqb, ltb}
 use lib.ListN.{getD}
 use Rattle.lists.specs.Scans.{every}
-use Rattle.lists.proofs.Counting.{by-test}
-use Rattle.lists.proofs.Scanning.{passed, every-of}
+use Rattle.lists.proofs.Counting.{by-test, contrary}
+use Rattle.lists.proofs.Scanning.{left, right, passed, every-of}
 use Rattle.part_checks.specs.PartChecks.{stationOk, breakerOk, faultOk, orderOk}
 use Rattle.grid.specs.Simulator.{breakersOf}
 use Rattle.timing.specs.Steps.{stepsOf, mostSteps}
-use Rattle.rules.specs.Studies.{broken, tooManySteps, switchingOrder, faultOrder, breakerOutside, flowRefusal, detectionRefusal, switchingRefusal, faultRefusal, sweepRefusal, pointRefusal, numberOf}
+use Rattle.rules.specs.Studies.{first, broken, startBroken, startRefusal, tooManySteps, switchingOrder, faultOrder, breakerOutside, flowRefusal, detectionRefusal, switchingRefusal, faultRefusal, sweepRefusal, pointRefusal, numberOf}
 use Rattle.rules.specs.Claims.{RefusalClaims, AcceptedClaims, FastestClaims}
 use Rattle.timing.specs.Claims.{Steps}
 use Rattle.breaker_times.specs.Claims.{timed}
 use Rattle.breaker_times.proofs.Fastest.{breaker-claims}
 use Rattle.grid.specs.declared.parts.ConverterStation.{ConverterStation}
+use Rattle.grid.specs.declared.parts.SweepOrder.{SweepOrder}
 use Rattle.grid.specs.declared.simulator.DcSwitchingSimulator.{DcSwitchingSimulator}
 use Rattle.rules.specs.declared.studies.Verdict.{Verdict}
-use Rattle.rules.specs.declared.studies.Verdict.the-variants.{Accepted, NoStation, NoCable, TooManyParts, TimeOutside, TooManySteps, StationOutside, CableOutside, BreakerOutside, EventOutside}
+use Rattle.rules.specs.declared.studies.Verdict.the-variants.{Accepted, NoStation, NoCable, TooManyParts, TimeOutside, TooManySteps, StationOutside, CableOutside, BreakerOutside, EventOutside, NotConverged}
 use Rattle.rules.proofs.AcceptedTimes.{accepted-timed}
 use Rattle.rules.proofs.Deciding.{decides}
 
@@ -30,7 +31,7 @@ use Rattle.rules.proofs.Deciding.{decides}
 
 -- the answer of a number
 answerOf : ℕ → Verdict
-answerOf n = getD (Accepted ∷ NoStation ∷ NoCable ∷ TooManyParts ∷ TimeOutside ∷ TooManySteps ∷ StationOutside ∷ CableOutside ∷ BreakerOutside ∷ EventOutside ∷ []) n Accepted
+answerOf n = getD (Accepted ∷ NoStation ∷ NoCable ∷ TooManyParts ∷ TimeOutside ∷ TooManySteps ∷ StationOutside ∷ CableOutside ∷ BreakerOutside ∷ EventOutside ∷ NotConverged ∷ []) n Accepted
 
 answered : (v : Verdict) → answerOf (numberOf v) ≡ v
 unfolding answerOf numberOf
@@ -44,6 +45,7 @@ answered StationOutside = refl
 answered CableOutside = refl
 answered BreakerOutside = refl
 answered EventOutside = refl
+answered NotConverged = refl
 
 point-six : (s : ConverterStation) → (pointRefusal s ≡ 6) ↔ (stationOk s ≡ false)
 unfolding pointRefusal
@@ -59,8 +61,31 @@ point-nought s = (
   (λ b. rw b),
 )
 
+-- the first of an order with one rule more behind it
+first-then : (f : ℕ → Bool) (ks : List ℕ) (k : ℕ) → every (λ j. not (eqb j 0)) ks ≡ true → first f (ks ++ (k ∷ [])) ≡ cond (eqb (first f ks) 0) (cond (f k) k 0) (first f ks)
+unfolding first
+first-then f [] k h = refl
+first-then f (j ∷ js) k h =
+    by-test (f j)
+    (λ e. rw (e, not-nought j (left (not (eqb j 0)) (every (λ i. not (eqb i 0)) js) h)))
+    (λ e. rw e (first-then f js k (right (not (eqb j 0)) (every (λ i. not (eqb i 0)) js) h)))
+  where
+    not-nought : (j : ℕ) → not (eqb j 0) ≡ true → eqb j 0 ≡ false
+    not-nought j h = by-test (eqb j 0) (λ e. contrary h (rw e)) (λ e. e)
+
+module _ (g : DcSwitchingSimulator) (o : SweepOrder) (b : Bool) where
+  with-ten : startRefusal g o b ≡ cond (eqb (sweepRefusal g o) 0) (cond b 10 0) (sweepRefusal g o)
+  unfolding startRefusal sweepRefusal first
+  with-ten = first-then (startBroken g o b) faultOrder 10 refl
+
+  start-earlier : (sweepRefusal g o ≡ 0 → ⊥) → startRefusal g o b ≡ sweepRefusal g o
+  start-earlier h = with-ten ∙ rw (ne-eqb (sweepRefusal g o) 0 h)
+
+  start-last : sweepRefusal g o ≡ 0 → startRefusal g o b ≡ cond b 10 0
+  start-last h = with-ten ∙ rw (eq-eqb (sweepRefusal g o) 0 h)
+
 pub refusal-claims : RefusalClaims
-unfolding flowRefusal detectionRefusal switchingRefusal faultRefusal sweepRefusal
+unfolding flowRefusal detectionRefusal switchingRefusal faultRefusal sweepRefusal startRefusal
 refusal-claims =
     record {
       flow = λ g. decides (broken g false) _ refl refl;
@@ -68,6 +93,9 @@ refusal-claims =
       switching = λ g. decides (broken g false) _ refl refl;
       fault = λ g f. decides (broken g (not (faultOk f))) _ refl refl;
       sweep = λ g o. decides (broken g (not (orderOk o))) _ refl refl;
+      start = λ g o b. decides (startBroken g o b) _ refl refl;
+      start-earlier = start-earlier;
+      start-last = start-last;
       point-refused = point-six;
       point-accepted = point-nought;
       known = λ v w e. sym (answered v) ∙ ap answerOf e ∙ answered w;

@@ -18,10 +18,10 @@ use Rattle.grid.specs.declared.parts.ConverterStation.{ConverterStation}
 use Rattle.grid.specs.declared.parts.DcFaultEvent.{DcFaultEvent}
 use Rattle.grid.specs.declared.parts.SweepOrder.{SweepOrder}
 use Rattle.grid.specs.declared.simulator.DcSwitchingSimulator.{DcSwitchingSimulator}
-use Rattle.rules.specs.declared.studies.Verdict.the-variants.{Accepted, NoStation, NoCable, TooManyParts, TimeOutside, TooManySteps, StationOutside, CableOutside, BreakerOutside, EventOutside}
+use Rattle.rules.specs.declared.studies.Verdict.the-variants.{Accepted, NoStation, NoCable, TooManyParts, TimeOutside, TooManySteps, StationOutside, CableOutside, BreakerOutside, EventOutside, NotConverged}
 
 -- the numbers of 01's table of refusals, from its first row on; 0 for what is accepted
-numbers-are : (numberOf Accepted ≡ 0) × (map numberOf (NoStation ∷ NoCable ∷ TooManyParts ∷ TimeOutside ∷ TooManySteps ∷ StationOutside ∷ CableOutside ∷ BreakerOutside ∷ EventOutside ∷ []) ≡ 1 ∷ 2 ∷ 3 ∷ 4 ∷ 5 ∷ 6 ∷ 7 ∷ 8 ∷ 9 ∷ [])
+numbers-are : (numberOf Accepted ≡ 0) × (map numberOf (NoStation ∷ NoCable ∷ TooManyParts ∷ TimeOutside ∷ TooManySteps ∷ StationOutside ∷ CableOutside ∷ BreakerOutside ∷ EventOutside ∷ NotConverged ∷ []) ≡ 1 ∷ 2 ∷ 3 ∷ 4 ∷ 5 ∷ 6 ∷ 7 ∷ 8 ∷ 9 ∷ 10 ∷ [])
 unfolding numberOf
 numbers-are = (refl, refl)
 

@@ -1,7 +1,7 @@
 -- What document 01 says of refusals in words, and what a reader expects beside the definitions. The proofs are in proofs/Claims.antt.
 use mathlib.Core.Path.{_≡_}
 use mathlib.Core.Logic.{_↔_}
-use mathlib.Core.Bool.{Bool, true, false, not}
+use mathlib.Core.Bool.{Bool, true, false, not, cond}
 use mathlib.Core.List.{List, _∷_, _++_}
 use Prim.Native.Nat.{ℕ, _≤_, _<_}
 use lib.ListN.{length}
@@ -13,7 +13,7 @@ use Rattle.breaker_times.specs.Breakers.{timeOf, fastestOf}
 use Rattle.timing.specs.Claims.{Steps}
 use Rattle.breaker_times.specs.Claims.{HasTime}
 use Rattle.part_checks.specs.PartChecks.{stationOk, faultOk, orderOk}
-use Rattle.rules.specs.Studies.{broken, breakerOutside, flowOrder, detectionOrder, switchingOrder, faultOrder, flowRefusal, detectionRefusal, switchingRefusal, faultRefusal, sweepRefusal, pointRefusal, numberOf}
+use Rattle.rules.specs.Studies.{order, broken, startBroken, startRefusal, breakerOutside, flowOrder, detectionOrder, switchingOrder, faultOrder, flowRefusal, detectionRefusal, switchingRefusal, faultRefusal, sweepRefusal, pointRefusal, numberOf}
 use Rattle.grid.specs.declared.parts.ConverterStation.{ConverterStation}
 use Rattle.grid.specs.declared.parts.DcFaultEvent.{DcFaultEvent}
 use Rattle.grid.specs.declared.parts.SweepOrder.{SweepOrder}
@@ -31,6 +31,10 @@ pub record RefusalClaims : Type 0 where
   pub switching : (g : DcSwitchingSimulator) → Decides (switchingRefusal g) (broken g false) switchingOrder
   pub fault : (g : DcSwitchingSimulator) (f : DcFaultEvent) → Decides (faultRefusal g f) (broken g (not (faultOk f))) faultOrder
   pub sweep : (g : DcSwitchingSimulator) (o : SweepOrder) → Decides (sweepRefusal g o) (broken g (not (orderOk o))) faultOrder
+  pub start : (g : DcSwitchingSimulator) (o : SweepOrder) (notConverged : Bool) → Decides (startRefusal g o notConverged) (startBroken g o notConverged) order
+  -- 10 comes last: what a sweep's other rules refuse is refused by them, and what they accept by 10 alone
+  pub start-earlier : (g : DcSwitchingSimulator) (o : SweepOrder) (notConverged : Bool) → (sweepRefusal g o ≡ 0 → ⊥) → startRefusal g o notConverged ≡ sweepRefusal g o
+  pub start-last : (g : DcSwitchingSimulator) (o : SweepOrder) (notConverged : Bool) → sweepRefusal g o ≡ 0 → startRefusal g o notConverged ≡ cond notConverged 10 0
   pub point-refused : (s : ConverterStation) → (pointRefusal s ≡ 6) ↔ (stationOk s ≡ false)
   pub point-accepted : (s : ConverterStation) → (pointRefusal s ≡ 0) ↔ (stationOk s ≡ true)
   -- an answer is known by its number

@@ -1,4 +1,4 @@
--- The rules 1 to 9 of document 01, their numbers, and the order in which each study checks them. Definitions only.
+-- The rules 1 to 10 of document 01, their numbers, and the order in which each study checks them. Definitions only.
 use Prim.Native.Nat.{ℕ}
 use mathlib.Core.Bool.{Bool, false, not, _&&_, _||_, cond}
 use mathlib.Core.List.{List, [], _∷_}
@@ -15,7 +15,7 @@ use Rattle.grid.specs.declared.parts.DcFaultEvent.{DcFaultEvent}
 use Rattle.grid.specs.declared.parts.SweepOrder.{SweepOrder}
 use Rattle.grid.specs.declared.simulator.DcSwitchingSimulator.{DcSwitchingSimulator}
 use Rattle.rules.specs.declared.studies.Verdict.{Verdict}
-use Rattle.rules.specs.declared.studies.Verdict.the-variants.{Accepted, NoStation, NoCable, TooManyParts, TimeOutside, TooManySteps, StationOutside, CableOutside, BreakerOutside, EventOutside}
+use Rattle.rules.specs.declared.studies.Verdict.the-variants.{Accepted, NoStation, NoCable, TooManyParts, TimeOutside, TooManySteps, StationOutside, CableOutside, BreakerOutside, EventOutside, NotConverged}
 
 -- ---- the rules: when each is broken
 
@@ -120,6 +120,13 @@ faultRefusal g fault = first (broken g (not (faultOk fault))) faultOrder
 unfoldable pub sweepRefusal : DcSwitchingSimulator → SweepOrder → ℕ
 sweepRefusal g o = first (broken g (not (orderOk o))) faultOrder
 
+-- a sweep's start checks all of the order. Whether 10 is broken, the flow has not converged, is handed in.
+abbrev pub startBroken : DcSwitchingSimulator → SweepOrder → (notConverged : Bool) → ℕ → Bool
+startBroken g o notConverged k = cond (eqb k 10) notConverged (broken g (not (orderOk o)) k)
+
+unfoldable pub startRefusal : DcSwitchingSimulator → SweepOrder → (notConverged : Bool) → ℕ
+startRefusal g o notConverged = first (startBroken g o notConverged) order
+
 -- an operating point checks 6 alone
 unfoldable pub pointRefusal : ConverterStation → ℕ
 pointRefusal s = cond (stationOk s) 0 6
@@ -138,3 +145,4 @@ numberOf StationOutside = 6
 numberOf CableOutside = 7
 numberOf BreakerOutside = 8
 numberOf EventOutside = 9
+numberOf NotConverged = 10

@@ -24,6 +24,7 @@ pub enum Verdict {
     CableOutside,
     BreakerOutside,
     EventOutside,
+    NotConverged,
 }
 
 // The numbers of the rules, first to last.
@@ -64,7 +65,7 @@ pub fn check_fault(g: DcSwitchingSimulator, fault: DcFaultEvent) -> Verdict
     verdict_of(first_broken(&order, g, !inside))
 }
 
-// Rule 10 is left to the sweep, which alone solves the flow.
+// Up to rule 9: 10 is left to the sweep's start, which alone solves the flow.
 pub fn check_sweep(g: DcSwitchingSimulator, o: SweepOrder) -> Verdict
     ensures { λ r. ⌜ numberOf r ≡ sweepRefusal g o ⌝ }
 {
@@ -97,6 +98,7 @@ pub fn number(v: Verdict) -> u64
         Verdict::CableOutside => 7,
         Verdict::BreakerOutside => 8,
         Verdict::EventOutside => 9,
+        Verdict::NotConverged => 10,
     }
 }
 

@@ -1,27 +1,35 @@
-// The fastest breaker in a loop.
-use crate::samples::sample_grid;
+// The fastest breaker, and the refusals of a fault run.
+use crate::grids;
+use crate::requests::Request;
 use breaker_times::fastest_breaker_clearing_ms;
-use grid::DcBreaker;
-use grid::DcBreakerType;
+use grid::DcSwitchingSimulator;
+use rules::check_fault;
 
-// Adds up `count` of the fastest times of a grid of `breakers` breakers, the first of which opens after 0 ms, 0.001 ms, and so on.
-#[no_mangle]
-pub extern "C" fn sum_fastest(breakers: u64, count: u64) -> f64 {
-    let mut grid = sample_grid(0, 0, breakers);
+// Adds up what is found at the times first, first + step, and so on. The first breaker opens after that time and the run lasts as long, so that
+// each turn asks anew.
+pub fn sum_of_times(r: Request) -> f64 {
+    let mut grid = grids::grid_of(r.order);
     let mut sum = 0.0;
-    let mut ms = 0.0;
-    let mut left = count;
+    let mut ms = r.first;
+    let mut left = r.count;
     while 0 < left {
-        let b = grid.breakers[0];
-        grid.breakers[0] = DcBreaker {
-            breaker_type: DcBreakerType::Mechanical {
-                opening_time_ms: ms,
-            },
-            ..b
-        };
-        sum += fastest_breaker_clearing_ms(grid);
-        ms += 0.001;
+        grid.breakers[0] = grids::breaker(0, ms);
+        grid.duration_ms = ms;
+        sum += found_at(r.work, grid, ms);
+        ms += r.step;
         left -= 1;
     }
     sum
+}
+
+// The fastest clearing time; or whether a fault at that time is accepted, 1 or 0.
+fn found_at(work: u64, grid: DcSwitchingSimulator, ms: f64) -> f64 {
+    if work == 8 {
+        return fastest_breaker_clearing_ms(grid);
+    }
+    if rules::number(check_fault(grid, grids::fault_at(ms))) == 0 {
+        1.0
+    } else {
+        0.0
+    }
 }

@@ -1,0 +1,3 @@
+pub mod OpenCases
+pub mod Plans
+pub mod Claims

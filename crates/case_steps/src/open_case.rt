@@ -1,0 +1,75 @@
+// What a sweep keeps of its open case.
+ghost use mathlib.Core.Path.{_≡_};
+ghost use Rattle.case_steps.specs.OpenCases.{startCase, noCase, outcomeIn};
+use fault_cases::CaseOutcome;
+use fault_step::FaultVariables;
+use fault_step::first_fault_variables;
+use grid::DcSwitchingSimulator;
+use state_derivatives::DcTransientState;
+
+// A case after the last of its steps that is made.
+pub struct OpenCase {
+    // 000's variables. Their state is that of the last step.
+    pub variables: FaultVariables,
+    // Whether a step that reason 8 counts has been detected.
+    pub detected: bool,
+    // The fault current of the clearing step, 0 before it.
+    pub clearing_current_ka: f64,
+}
+
+// A case of which no step is made: 000's variables before its loop.
+pub fn first_open_case(g: DcSwitchingSimulator) -> OpenCase
+    ensures { λ r. ⌜ r ≡ startCase g ⌝ }
+{
+    OpenCase {
+        variables: first_fault_variables(g),
+        detected: false,
+        clearing_current_ka: 0.0,
+    }
+}
+
+// Where no case is left: all zero and false.
+pub fn no_open_case() -> OpenCase
+    ensures { λ r. ⌜ r ≡ noCase ⌝ }
+{
+    let y = [0.0; 96];
+    let station_currents_ka = [0.0; 32];
+    let breaker_states = [false; 32];
+    let state = DcTransientState {
+        time_ms: 0.0,
+        y,
+        station_currents_ka,
+        fault_current_ka: 0.0,
+        breaker_states,
+    };
+    let variables = FaultVariables {
+        state,
+        peak_fault_ka: 0.0,
+        max_di_dt: 0.0,
+        energy_mj: 0.0,
+        fault_cleared: false,
+        clearing_time_ms: 0.0,
+        voltage_recovery_time_ms: 0.0,
+        prev_fault_current_ka: 0.0,
+        fault_active: false,
+    };
+    OpenCase {
+        variables,
+        detected: false,
+        clearing_current_ka: 0.0,
+    }
+}
+
+// What the steps made so far lead to.
+pub fn case_outcome(c: OpenCase) -> CaseOutcome
+    ensures { λ r. ⌜ r ≡ outcomeIn c ⌝ }
+{
+    let v = c.variables;
+    CaseOutcome {
+        cleared: v.fault_cleared,
+        clearing_current_ka: c.clearing_current_ka,
+        energy_mj: v.energy_mj,
+        peak_fault_ka: v.peak_fault_ka,
+        detected: c.detected,
+    }
+}

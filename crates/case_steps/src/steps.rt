@@ -1,0 +1,62 @@
+// Steps of a case, one by one: a step of its fault run, and what the reasons ask of that step.
+ghost use mathlib.Core.Path.{_≡_};
+ghost use mathlib.Core.Bool.{cond};
+ghost use Prim.Native.Nat.{_-_};
+ghost use Rattle.case_steps.specs.Plans.{planDetected, planCaseStep, planCaseFrom};
+use crate::open_case::OpenCase;
+use detection::detects;
+use fault_step::FaultPlan;
+use fault_step::FaultVariables;
+use fault_step::fault_step;
+
+// The steps from the number `first` up to `end`, which is not made.
+pub fn case_steps(plan: FaultPlan, first: u64, end: u64, start: OpenCase) -> OpenCase
+    ensures { λ r. ⌜ r ≡ planCaseFrom plan first start (end - first) ⌝ }
+{
+    let mut c = start;
+    let mut step = first;
+    while step < end {
+        c = case_step(plan, step, c);
+        step += 1;
+    }
+    c
+}
+
+fn case_step(plan: FaultPlan, step: u64, c: OpenCase) -> OpenCase
+    ensures { λ r. ⌜ r ≡ planCaseStep plan step c ⌝ }
+{
+    let before = c.variables;
+    let after = fault_step(plan, step, before);
+    let state = after.state;
+    let clears = !before.fault_cleared & after.fault_cleared;
+    OpenCase {
+        variables: after,
+        detected: is_detected(plan, step, c, after),
+        clearing_current_ka: choose(clears, state.fault_current_ka, c.clearing_current_ka),
+    }
+}
+
+// Once a step is detected, none is looked at any more.
+fn is_detected(plan: FaultPlan, step: u64, c: OpenCase, after: FaultVariables) -> bool
+    ensures { λ r. ⌜ r ≡ planDetected plan step c after ⌝ }
+{
+    if c.detected {
+        return true;
+    }
+    let before = c.variables;
+    // Reason 8 counts the steps from 1 up to the clearing one.
+    if (step < 1) | before.fault_cleared {
+        return false;
+    }
+    let network = plan.network;
+    let rated = plan.rated_kv;
+    let state = after.state;
+    let prev = before.state;
+    detects(&rated, network.n_stations, network.n_cables, state, prev)
+}
+
+fn choose(test: bool, yes: f64, no: f64) -> f64
+    ensures { λ r. ⌜ r ≡ cond test yes no ⌝ }
+{
+    if test { yes } else { no }
+}

@@ -1,0 +1,153 @@
+-- `advance` meets its contract. Assumes nothing.
+use Rattle.fault_sweep.specs.KeptSweep.{keptAt}
+use Rattle.fault_sweep.specs.Advance.{sweepStepper}
+use Rattle.fault_sweep.proofs.SweepLoop.{Inside, inside, few-steps, room, more-rows, leaves, closes, finishes, returned}
+use Rattle.portions.proofs.Loop.{came-refused}
+use native.Mathlib.Omega.{arith}
+use Prim.Native.Nat.{_+_, _-_, _≤_}
+use mathlib.Core.Path.{refl, sym, _∙_}
+use borrow.Author.Needs.{needs}
+use Rattle.fault_sweep.proofs.sweep.Sweep.advance.Statement.{statement}
+use Rattle.fault_sweep.proofs.sweep.Sweep.advance.Tie as tie
+
+abbrev Inv-loop : tie.InvT-loop
+Inv-loop allowance rows₀ g order flow n cases space common k₀ made₀ c₀ steps₀ out₀ rows k made c steps out =
+    Inside g order flow (keptAt g order flow k₀ made₀ c₀) allowance rows₀ n cases space common rows k made c steps out
+
+abbrev μ-loop : tie.MeasureT-loop
+μ-loop allowance rows₀ g order flow n cases space common k₀ made₀ c₀ steps₀ out₀ rows k made c steps out = cases - k
+
+-- the start of the function, from its loop
+abbrev start : tie.At-loop Inv-loop μ-loop → tie.Start Inv-loop μ-loop
+start l = l .before .before .before .before .before .before .before .before .before .before .before
+
+counted : (c : tie.After-steps-now Inv-loop μ-loop)
+    → let l = c .before .before in
+    (l .loop .made + c .steps-now .result ≤ 1000000) × (l .loop .steps + c .steps-now .result ≤ start l .args .allowance)
+counted c = let t = c .before in few-steps _ _ _ (t .before .loop .inv) (t .loop-test .taken) _ refl (c .steps-now .result) (c .steps-now .ensures)
+
+is-broken-requires : tie.Need-is-broken-requires Inv-loop μ-loop
+is-broken-requires c κs = search needs
+
+returns : tie.Need-returns Inv-loop μ-loop
+returns c = returned (came-refused sweepStepper _ _ _ (sym (c .before .is-broken .ensures) ∙ c .if1 .taken))
+
+total-steps-requires : tie.Need-total-steps-requires Inv-loop μ-loop
+total-steps-requires c κs = search needs
+
+case-count-requires : tie.Need-case-count-requires Inv-loop μ-loop
+case-count-requires c κs = search needs
+
+common-of-requires : tie.Need-common-of-requires Inv-loop μ-loop
+common-of-requires c κs = search needs
+
+loop-holds : tie.Need-loop-holds Inv-loop μ-loop
+loop-holds c =
+    let x = c .before in
+    let k = x .before in
+    let n = k .before in
+    let i = n .before .before .before .before in
+    inside (i .before .before .before .args .self) (sym (i .before .is-broken .ensures) ∙ i .if1 .left) _ _ _ _ _ (n .total-steps .ensures) (k .case-count .ensures) (x .common-of .ensures)
+
+sub-left : tie.Need-sub-left Inv-loop μ-loop
+sub-left c = omega (arith, c .before .loop .inv .made-ok)
+
+sub-allowed : tie.Need-sub-allowed Inv-loop μ-loop
+sub-allowed c = omega (arith, c .before .loop .inv .going .steps-ok)
+
+steps-now-requires : tie.Need-steps-now-requires Inv-loop μ-loop
+steps-now-requires c κs = omega (arith, c .before .loop .inv .made-ok)
+
+add-make-steps : tie.Need-add-make-steps Inv-loop μ-loop
+add-make-steps c = omega (arith, counted c .0)
+
+make-steps-requires : tie.Need-make-steps-requires Inv-loop μ-loop
+make-steps-requires c κs = search needs
+
+add-made : tie.Need-add-made Inv-loop μ-loop
+add-made c = omega (arith, counted (c .before) .0)
+
+add-steps : tie.Need-add-steps Inv-loop μ-loop
+add-steps c = omega (arith, counted (c .before) .1, start (c .before .before .before) .fits .allowance)
+
+put-case-requires : tie.Need-put-case-requires Inv-loop μ-loop
+put-case-requires c κs =
+    let i = c .before in
+    let t = i .before .before .before in
+    room _ _ _ (t .before .loop .inv) (t .loop-test .taken) _ refl (i .if2 .taken)
+
+add-out : tie.Need-add-out Inv-loop μ-loop
+add-out c =
+    let p = c .before .before in
+    let i = p .before .before in
+    let t = i .before .before .before in
+    omega (arith, more-rows _ _ _ (t .before .loop .inv) (t .loop-test .taken) _ refl (i .if2 .taken) (i .before .make-steps .result) (p .put-case .result) (p .put-case .ensures .0), start (t .before) .good .1 .1 .0)
+
+add-k : tie.Need-add-k Inv-loop μ-loop
+add-k c = omega (arith, c .before .before .before .before .before .before .before .loop-test .taken)
+
+open-case-requires : tie.Need-open-case-requires Inv-loop μ-loop
+open-case-requires c κs = search needs
+
+loop-less : tie.Need-loop-less Inv-loop μ-loop
+loop-less c = omega (arith, c .before .before .before .before .before .before .before .before .loop-test .taken)
+
+loop-again : tie.Need-loop-again Inv-loop μ-loop
+loop-again c =
+    let p = c .before .before .before in
+    let i = p .before .before in
+    let m = i .before in
+    let s = m .before in
+    let t = s .before in
+    closes _ _ _ (t .before .loop .inv) (t .loop-test .taken) _ refl (i .if2 .taken) (s .steps-now .result) (s .steps-now .ensures) (m .make-steps .result) (m .make-steps .ensures) (p .put-case .result) (p .put-case .ensures .0) _ (p .put-case .ensures .1) _ (c .open-case .ensures)
+
+reason-requires : tie.Need-reason-requires Inv-loop μ-loop
+reason-requires c κs = search needs
+
+same-length : tie.Need-same-length Inv-loop μ-loop
+same-length c = c .before .before .before .before .before .loop .inv .going .same-length
+
+returns-2 : tie.Need-returns-2 Inv-loop μ-loop
+returns-2 c =
+    let i = c .before in
+    let m = i .before in
+    let s = m .before in
+    let t = s .before in
+    rw (c .reason .ensures) (returned (leaves _ _ _ (t .before .loop .inv) (t .loop-test .taken) _ refl (i .if2 .left) (s .steps-now .result) (s .steps-now .ensures) (m .make-steps .result) (m .make-steps .ensures)))
+
+same-length-2 : tie.Need-same-length-2 Inv-loop μ-loop
+same-length-2 c = c .before .loop .inv .going .same-length
+
+returns-3 : tie.Need-returns-3 Inv-loop μ-loop
+returns-3 c = returned (finishes _ _ _ (c .before .loop .inv) (c .loop-test .left))
+
+pub advance-spec : {M : Type 1} → statement M
+advance-spec =
+    tie.close
+    (tie.spec
+    Inv-loop
+    μ-loop
+    is-broken-requires
+    returns
+    total-steps-requires
+    case-count-requires
+    common-of-requires
+    loop-holds
+    sub-left
+    sub-allowed
+    steps-now-requires
+    add-make-steps
+    make-steps-requires
+    add-made
+    add-steps
+    put-case-requires
+    add-out
+    add-k
+    open-case-requires
+    loop-less
+    loop-again
+    reason-requires
+    same-length
+    returns-2
+    same-length-2
+    returns-3)

@@ -1,0 +1,4 @@
+pub mod KeptSweep
+pub mod Advance
+pub mod Plans
+pub mod Claims
