@@ -18,6 +18,8 @@ use Rattle.power_flow.proofs.Claims.{answer-claims}
 use Rattle.power_flow.proofs.flow.solve_dc_power_flow as solve-contract
 use Rattle.power_flow.proofs.flow.solve_dc_power_flow.Kinds as solve-kinds
 use Rattle.power_flow.proofs.flow.solve_dc_power_flow.Reads as solve-reads
+use Rattle.power_flow.proofs.flow.no_solution as no-solution-contract
+use Rattle.power_flow.proofs.flow.no_solution.Reads as no-solution-reads
 
 module _ (κs : Lfts 0) (a : ArgsD solve-contract.signature κs) (r : ResD solve-contract.signature κs) (e : AtExit (endedOf 0 solve-kinds.ps solve-kinds.r) κs) where
   pub solve-any : solve-reads.Asked κs a
@@ -46,3 +48,7 @@ module _ (κs : Lfts 0) (a : ArgsD solve-contract.signature κs) (r : ResD solve
 
     pub solve-no-cable : (k : ℕ) → a .0 .«n_cables» ≤ k → k < 64 → getD (r .solution .«cable_losses_mw») k nought ≡ nought
     solve-no-cable k l m = rw (h .1) (answer-claims .no-cable (a .0) k l m)
+
+module _ (κs : Lfts 0) where
+  pub no-solution-any : (a : ArgsD no-solution-contract.signature κs) → no-solution-reads.Asked κs a
+  no-solution-any a = tt
