@@ -81,9 +81,10 @@ fn listing(plans: &mut Vec<Plan>) {
         plan.event[3] = 1;
         plans.push(plan);
     }
-    // All tenths of one cable, of one step.
+    // All tenths of one cable, of three steps, so that each fraction shows.
     let mut plan = sweep(0, WHOLE);
-    plan.times[1] = 0.1f64.to_bits();
+    plan.times[1] = 0.3f64.to_bits();
+    plan.event[1] = 0;
     plan.event[3] = 10;
     plans.push(plan);
 }
