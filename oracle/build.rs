@@ -38,7 +38,7 @@ const fn piece(name: &'static str, from: &'static str, through: &'static str) ->
     }
 }
 
-const PIECES: [Piece; 7] = [
+const PIECES: [Piece; 8] = [
     piece(
         "@base_units@",
         "// Convert to base units",
@@ -59,8 +59,8 @@ const PIECES: [Piece; 7] = [
     // The runs whole, but for a name of their own and a loop that may end sooner. The results are then the variables.
     Piece {
         name: "@first_steps_of_fault@",
-        from: "pub fn simulate_fault(",
-        through: "fault_cleared,\n        })\n    }",
+        from: FAULT_RUN.0,
+        through: FAULT_RUN.1,
         edits: &[
             (
                 "simulate_fault(&self, fault: &DcFaultEvent)",
@@ -71,6 +71,26 @@ const PIECES: [Piece; 7] = [
                 "if fault_cleared {\n                clearing_time_ms\n            } else {\n                self.duration_ms\n            }",
                 "clearing_time_ms",
             ),
+        ],
+    },
+    // The fault run again, which shows the state of every step, recorded or not, and returns the variables themselves.
+    Piece {
+        name: "@watched_fault@",
+        from: FAULT_RUN.0,
+        through: FAULT_RUN.1,
+        edits: &[
+            (
+                "simulate_fault(&self, fault: &DcFaultEvent) -> Result<DcTransientResult, String> {",
+                WATCHED,
+            ),
+            LOOP,
+            ("let mut states = Vec::with_capacity(total_steps.min(10000));\n", ""),
+            ("let record_interval = (total_steps / 5000).max(1);\n", ""),
+            (
+                "if step % record_interval == 0 || step == total_steps - 1 {\n                states.push(state.clone());\n            }",
+                "after_step(&state, fault_cleared);",
+            ),
+            RESULTS,
         ],
     },
     Piece {
@@ -89,6 +109,47 @@ const PIECES: [Piece; 7] = [
 const LOOP: (&str, &str) = (
     "for step in 0..total_steps {",
     "for step in 0..total_steps.min(steps) {",
+);
+
+/// Where the fault run begins and ends.
+const FAULT_RUN: (&str, &str) = (
+    "pub fn simulate_fault(",
+    "fault_cleared,\n        })\n    }",
+);
+
+const WATCHED: &str = "watched_fault(
+        &self,
+        fault: &DcFaultEvent,
+        steps: usize,
+        mut after_step: impl FnMut(&DcTransientState, bool),
+    ) -> Result<FaultVariables, String> {";
+
+/// What the fault run returns, and its variables in that place.
+const RESULTS: (&str, &str) = (
+    "Ok(DcTransientResult {
+            states,
+            peak_fault_current_ka: peak_fault_ka,
+            fault_clearing_time_ms: if fault_cleared {
+                clearing_time_ms
+            } else {
+                self.duration_ms
+            },
+            energy_dissipated_mj: energy_mj,
+            voltage_recovery_time_ms,
+            max_di_dt,
+            fault_cleared,
+        })",
+    "Ok(FaultVariables {
+            state,
+            peak_fault_ka,
+            max_di_dt,
+            energy_mj,
+            fault_cleared,
+            clearing_time_ms,
+            voltage_recovery_time_ms,
+            prev_fault_current_ka,
+            fault_active,
+        })",
 );
 
 fn edited(published: &str) -> String {

@@ -7,10 +7,11 @@ mod grids;
 mod points;
 mod runs;
 mod steps;
+mod sweeps;
 
 use crate::jobs::{
-    is_kept, is_point, CIRCUIT, DETECTION, FAULT_RUN, FLOATS, FLOW, STEP, SWITCHING_RUN,
-    TIMED_FAULT_RUN,
+    is_kept, is_point, CIRCUIT, DETECTION, FAULT_RUN, FLOATS, FLOW, KEPT_SWEEP, STEP, SWEEP,
+    SWITCHING_RUN, TIMED_FAULT_RUN,
 };
 use crate::plan::End;
 use std::f64::consts::PI;
@@ -71,7 +72,11 @@ pub fn job(number: u64, random: &mut Random) -> Drawn {
         CIRCUIT if random.below(4) > 0 => circuits::job(random),
         FAULT_RUN | SWITCHING_RUN if random.below(4) > 0 => runs::job(number, random),
         TIMED_FAULT_RUN if random.below(4) > 0 => runs::timed(random),
-        _ if is_kept(number) && random.below(4) > 0 => runs::kept(number, random),
+        SWEEP if random.below(4) > 0 => sweeps::job(random),
+        _ if is_kept(number) && random.below(4) > 0 => match number {
+            KEPT_SWEEP => sweeps::kept(random),
+            _ => runs::kept(number, random),
+        },
         _ if is_point(number) && random.below(4) > 0 => points::job(number, random),
         _ => grids::job(number, random),
     }

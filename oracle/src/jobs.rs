@@ -1,6 +1,7 @@
 //! The jobs of the replay bench, answered by the published Rust and by document 01's rules.
 
 pub mod runs;
+pub mod sweeps;
 mod transients;
 
 use crate::dc_switching::{
@@ -22,6 +23,7 @@ pub const SWEEP: u64 = 7;
 pub const FLOATS: u64 = 8;
 pub const KEPT_FAULT_RUN: u64 = 9;
 pub const KEPT_SWITCHING_RUN: u64 = 10;
+pub const KEPT_SWEEP: u64 = 11;
 /// The one job on a grid that refuses none.
 pub const TIMES: u64 = 12;
 // What a fault run is made of, refused as one.
@@ -31,7 +33,7 @@ pub const CIRCUIT: u64 = 14;
 pub const TIMED_FAULT_RUN: u64 = 15;
 
 /// The jobs on a grid or a part of one.
-pub const GRID_JOBS: [(u64, &str); 13] = [
+pub const GRID_JOBS: [(u64, &str); 14] = [
     (FLOW, "flow"),
     (LCC_POINT, "LCC point"),
     (VSC_POINT, "VSC point"),
@@ -41,6 +43,7 @@ pub const GRID_JOBS: [(u64, &str); 13] = [
     (SWEEP, "sweep"),
     (KEPT_FAULT_RUN, "kept fault run"),
     (KEPT_SWITCHING_RUN, "kept switching run"),
+    (KEPT_SWEEP, "kept sweep"),
     (TIMES, "times"),
     (STEP, "RK4 step"),
     (CIRCUIT, "fault circuit"),
@@ -60,6 +63,11 @@ pub fn has_fault(job: u64) -> bool {
     )
 }
 
+/// Whether a job has a sweep order.
+pub fn has_order(job: u64) -> bool {
+    matches!(job, SWEEP | KEPT_SWEEP)
+}
+
 /// How many numbers of an answer stand before the refusal.
 pub fn before_refusal(job: u64) -> usize {
     if job == TIMED_FAULT_RUN {
@@ -69,9 +77,9 @@ pub fn before_refusal(job: u64) -> usize {
     }
 }
 
-/// Whether a job is a kept run, whose answer is a stop, or 11 for all that refuses it.
+/// Whether a job is a kept run or sweep, whose answer is a stop, or 11 for all that refuses it.
 pub fn is_kept(job: u64) -> bool {
-    matches!(job, KEPT_FAULT_RUN | KEPT_SWITCHING_RUN)
+    matches!(job, KEPT_FAULT_RUN | KEPT_SWITCHING_RUN | KEPT_SWEEP)
 }
 
 /// Answers the next job, or nothing more where the input ends, inside the job too, or no such job is known.
@@ -83,10 +91,11 @@ pub fn answer(input: &mut impl Iterator<Item = u64>, output: &mut Vec<u64>) -> O
         job @ (FAULT_RUN | TIMED_FAULT_RUN) => runs::fault_run(job, input, output)?,
         SWITCHING_RUN => runs::switching_run(input, output)?,
         DETECTION => transients::detection(input, output)?,
-        SWEEP => output.push(sweep(input)?),
+        SWEEP => sweeps::sweep(input, output)?,
         FLOATS => floats(input, output)?,
         KEPT_FAULT_RUN => output.push(runs::kept_fault_run(input)?),
         KEPT_SWITCHING_RUN => output.push(runs::kept_switching_run(input)?),
+        KEPT_SWEEP => output.push(sweeps::kept_sweep(input)?),
         TIMES => times(&grids::grid(input)?, output),
         STEP => transients::step(input, output)?,
         CIRCUIT => transients::circuit(input, output)?,
@@ -165,14 +174,6 @@ fn point_numbers(point: &ConverterOperatingPoint) -> [u64; POINT] {
         bits(point.power_factor),
         bits(point.losses_mw),
     ]
-}
-
-/// Answered up to its refusal: 0, or the number of the rule. The calls are read, so that the next job begins where this one ends.
-fn sweep(input: &mut impl Iterator<Item = u64>) -> Option<u64> {
-    let grid = grids::grid(input)?;
-    let order = grids::order(input)?;
-    runs::calls(input)?;
-    Some(rules::sweep(&grid, &order))
 }
 
 /// Time and fault current, two numbers of each station, one of each cable and breaker; counts are cut to the room that there is.
@@ -408,6 +409,7 @@ mod tests {
                 STEP => 1 + 2 * job[3] + job[4],
                 CIRCUIT => 8,
                 FAULT_RUN | SWITCHING_RUN | TIMED_FAULT_RUN => run_length(&job, &answer),
+                SWEEP => sweep_length(&job, &answer),
                 FLOATS => continue,
                 TIMES => 7 + job[5].min(BREAKERS),
                 _ => 1,
@@ -433,6 +435,21 @@ mod tests {
             }
         }
         at + 7
+    }
+
+    /// By the rows that the calls say they wrote.
+    fn sweep_length(job: &[u64], answer: &[u64]) -> u64 {
+        let input = &mut job[1..].iter().copied();
+        let grid = grids::grid(input).unwrap();
+        let calls = runs::calls(&mut input.skip(4)).unwrap();
+        let mut at = 1;
+        for _ in calls {
+            match answer.get(at as usize + 2) {
+                Some(rows) => at += 3 + sweeps::ROW * rows,
+                None => return 0,
+            }
+        }
+        at + 2 + sweeps::opened_length(&grid) as u64
     }
 
     #[test]

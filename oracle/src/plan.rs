@@ -2,8 +2,9 @@
 
 use crate::grids::{CABLES, STATIONS};
 use crate::jobs::{
-    has_fault, is_point, CIRCUIT, DETECTION, FAULT_RUN, FLOW, KEPT_FAULT_RUN, KEPT_SWITCHING_RUN,
-    LCC_POINT, STEP, SWEEP, SWITCHING_RUN, TIMED_FAULT_RUN, TIMES, VSC_POINT,
+    has_fault, has_order, is_point, CIRCUIT, DETECTION, FAULT_RUN, FLOW, KEPT_FAULT_RUN,
+    KEPT_SWEEP, KEPT_SWITCHING_RUN, LCC_POINT, STEP, SWEEP, SWITCHING_RUN, TIMED_FAULT_RUN, TIMES,
+    VSC_POINT,
 };
 use crate::numbers::NAN;
 use crate::rules::{self, Range};
@@ -23,8 +24,8 @@ pub struct Plan {
     pub breakers: Vec<[u64; 7]>,
     /// A fault, or a sweep order.
     pub event: Vec<u64>,
-    /// What no rule of a grid looks at: a current, power and voltage, a breaker number, calls, steps made, whether a fault is handed to
-    /// a step, times.
+    /// What no rule of a grid looks at: a current, power and voltage, a breaker number, calls, a case number, steps made, whether a fault
+    /// is handed to a step, times.
     pub rest: Vec<u64>,
     /// The states of a detection, or that of a step; where there is none here, 0, 1, 2 and so on, as many as the counts ask for.
     pub states: Vec<u64>,
@@ -154,12 +155,13 @@ impl Plan {
             breakers: vec![[0; 7]],
             event: match job {
                 _ if has_fault(job) => vec![0; 5],
-                SWEEP => vec![0, 0, 0, rules::LAST_TENTH],
+                _ if has_order(job) => vec![0, 0, 0, rules::LAST_TENTH],
                 _ => Vec::new(),
             },
             rest: match job {
                 FLOW | DETECTION | TIMES => Vec::new(),
                 LCC_POINT | FAULT_RUN | SWEEP | KEPT_FAULT_RUN | TIMED_FAULT_RUN => vec![0],
+                KEPT_SWEEP => vec![0, 0],
                 VSC_POINT => vec![0, 100f64.to_bits()],
                 SWITCHING_RUN | KEPT_SWITCHING_RUN => vec![0, 1, 0],
                 STEP => vec![1, 1e-6f64.to_bits()],
@@ -231,7 +233,7 @@ impl Plan {
                 ("fault resistance", Accepted::Doubles(rules::RESISTANCE)),
                 ("fault inception", Accepted::Doubles(rules::INCEPTION)),
             ],
-            SWEEP => &[
+            job if has_order(job) => &[
                 ("order resistance", Accepted::Doubles(rules::RESISTANCE)),
                 ("order inception", Accepted::Doubles(rules::INCEPTION)),
                 ("low tenth", Accepted::Numbers(rules::LAST_TENTH)),

@@ -1,12 +1,13 @@
-//! The rules 1 to 9 of document 01, and which of them each study checks. Written from 01's table and list, and from nothing else.
+//! The rules 1 to 10 of document 01, and which of them each study checks. Written from 01's table and list, and from nothing else; the
+//! flow that rule 10 asks for is the published one.
 
 use crate::dc_switching::{
     ConverterStation, ConverterTopology, DcBreaker, DcBreakerType, DcCable, DcFaultEvent,
 };
 use crate::grids::{Grid, SweepOrder};
 use crate::jobs::{
-    has_fault, DETECTION, FAULT_RUN, FLOW, KEPT_SWITCHING_RUN, LCC_POINT, SWEEP, SWITCHING_RUN,
-    VSC_POINT,
+    has_fault, DETECTION, FAULT_RUN, FLOW, KEPT_SWEEP, KEPT_SWITCHING_RUN, LCC_POINT, SWEEP,
+    SWITCHING_RUN, VSC_POINT,
 };
 
 /// Accepted values, ends included.
@@ -58,16 +59,17 @@ pub const LAST_TENTH: u64 = 10;
 pub const MOST_STEPS: f64 = 1_000_000.0;
 
 /// All of them in the order in which they are checked; the first that applies is returned.
-const ORDER: [u64; 9] = [3, 1, 2, 4, 5, 6, 7, 8, 9];
+const ORDER: [u64; 10] = [3, 1, 2, 4, 5, 6, 7, 8, 9, 10];
 
-/// The rules that the study of a job checks, first to last. For a sweep 10 follows, for which the flow must be solved.
+/// The rules that the study of a job checks, first to last. A kept sweep is not refused by 10.
 pub fn checked(job: u64) -> Vec<u64> {
     match job {
-        FLOW => less(&[2, 4, 5, 9]),
+        FLOW => less(&[2, 4, 5, 9, 10]),
         LCC_POINT | VSC_POINT => vec![6],
         SWEEP => less(&[]),
-        _ if has_fault(job) => less(&[]),
-        SWITCHING_RUN | KEPT_SWITCHING_RUN => less(&[2, 9]),
+        KEPT_SWEEP => less(&[10]),
+        _ if has_fault(job) => less(&[10]),
+        SWITCHING_RUN | KEPT_SWITCHING_RUN => less(&[2, 9, 10]),
         DETECTION => vec![3, 1, 6, 7, 8],
         _ => panic!("job {job} checks no rule"),
     }
@@ -103,7 +105,15 @@ pub fn fault(g: &Grid, f: &DcFaultEvent) -> u64 {
 }
 
 pub fn sweep(g: &Grid, o: &SweepOrder) -> u64 {
-    first(SWEEP, |rule| match rule {
+    sweep_of(SWEEP, g, o)
+}
+
+pub fn kept_sweep(g: &Grid, o: &SweepOrder) -> u64 {
+    sweep_of(KEPT_SWEEP, g, o)
+}
+
+fn sweep_of(job: u64, g: &Grid, o: &SweepOrder) -> u64 {
+    first(job, |rule| match rule {
         9 => rule_9_of_order(o),
         _ => applies(rule, g),
     })
@@ -128,6 +138,7 @@ fn applies(rule: u64, g: &Grid) -> bool {
         6 => rule_6(g),
         7 => rule_7(g),
         8 => rule_8(g),
+        10 => rule_10(g),
         _ => panic!("rule {rule} is none on grids"),
     }
 }
@@ -171,6 +182,12 @@ fn rule_7(g: &Grid) -> bool {
 /// A field of a breaker outside its range.
 fn rule_8(g: &Grid) -> bool {
     g.simulator.breakers.iter().any(breaker_outside)
+}
+
+/// The flow has not converged. Rule 1 comes before it.
+fn rule_10(g: &Grid) -> bool {
+    let solution = g.simulator.solve_dc_power_flow();
+    !solution.expect("rule 1 has seen a station").converged
 }
 
 fn outside(numbers: &[usize], doubles: &[(f64, Range)]) -> bool {
@@ -279,7 +296,8 @@ mod tests {
         assert_eq!(checked(DETECTION), [3, 1, 6, 7, 8]);
         assert_eq!(checked(SWITCHING_RUN), [3, 1, 4, 5, 6, 7, 8]);
         assert_eq!(checked(FAULT_RUN), [3, 1, 2, 4, 5, 6, 7, 8, 9]);
-        assert_eq!(checked(SWEEP), [3, 1, 2, 4, 5, 6, 7, 8, 9]);
+        assert_eq!(checked(SWEEP), [3, 1, 2, 4, 5, 6, 7, 8, 9, 10]);
+        assert_eq!(checked(KEPT_SWEEP), [3, 1, 2, 4, 5, 6, 7, 8, 9]);
         assert_eq!(checked(LCC_POINT), [6]);
         assert_eq!(checked(VSC_POINT), [6]);
     }

@@ -6,11 +6,12 @@ mod flows;
 mod points;
 mod runs;
 mod steps;
+mod sweeps;
 
 use crate::draw::{self, Random};
 use crate::jobs::{
-    answer, has_fault, CIRCUIT, DETECTION, FAULT_RUN, FLOW, GRID_JOBS, LCC_POINT, STEP, SWEEP,
-    SWITCHING_RUN, TIMES, VSC_POINT,
+    answer, has_fault, has_order, CIRCUIT, DETECTION, FAULT_RUN, FLOW, GRID_JOBS, LCC_POINT, STEP,
+    SWEEP, SWITCHING_RUN, TIMES, VSC_POINT,
 };
 use crate::numbers::NAN;
 use crate::plan::{Accepted, End, Plan, HYBRID, MECHANICAL, MMC, SOLID_STATE};
@@ -38,6 +39,7 @@ pub fn jobs() -> Vec<Vec<u64>> {
     // Later ones stand at the end.
     let mut plans = Vec::new();
     runs::at_set_times(&mut plans);
+    sweeps::sweeps(&mut plans);
     jobs.extend(plans.iter().map(Plan::numbers));
     jobs
 }
@@ -202,12 +204,12 @@ fn rules(plans: &mut Vec<Plan>) {
     }
 }
 
-/// Only a fault and an order have fields that rule 9 looks at.
+/// Only a fault and an order have fields that rule 9 looks at, and only a sweep's start solves the flow.
 fn last_rule(job: u64) -> u64 {
-    if has_fault(job) || job == SWEEP {
-        9
-    } else {
-        8
+    match job {
+        SWEEP => 10,
+        _ if has_fault(job) || has_order(job) => 9,
+        _ => 8,
     }
 }
 
@@ -239,8 +241,14 @@ fn broken(plan: &Plan, rule: u64) -> Plan {
         7 => plan.cables[0][3] = (-1f64).to_bits(),
         8 => plan.breakers[0][6] = NAN,
         // The resistance: of an order the first number, of a fault the fourth.
-        9 if plan.job == SWEEP => plan.event[0] = (-1f64).to_bits(),
+        9 if has_order(plan.job) => plan.event[0] = (-1f64).to_bits(),
         9 => plan.event[3] = (-1f64).to_bits(),
+        // A station more, which takes what no cable brings.
+        10 => {
+            plan.counts[0] += 1;
+            plan.stations.push(plan.stations[0]);
+            plan.stations[1][4] = 1000f64.to_bits();
+        }
         _ => panic!("rule {rule}"),
     }
     plan

@@ -7,6 +7,7 @@ mod flows;
 mod points;
 mod runs;
 mod steps;
+mod sweeps;
 
 pub use circuits::Circuits;
 pub use detections::Detections;
@@ -14,12 +15,13 @@ pub use flows::Flows;
 pub use points::Points;
 pub use runs::{FaultRuns, KeptRuns, SwitchingRuns, TimedFaultRuns};
 pub use steps::Steps;
+pub use sweeps::{KeptSweeps, Sweeps};
 
 use crate::draw::Drawn;
 use crate::jobs::runs::REFUSED;
 use crate::jobs::{
-    before_refusal, is_kept, is_point, CIRCUIT, DETECTION, FAULT_RUN, FLOW, GRID_JOBS, STEP,
-    SWITCHING_RUN, TIMED_FAULT_RUN, TIMES,
+    before_refusal, is_kept, is_point, CIRCUIT, DETECTION, FAULT_RUN, FLOW, GRID_JOBS, KEPT_SWEEP,
+    STEP, SWEEP, SWITCHING_RUN, TIMED_FAULT_RUN, TIMES,
 };
 use crate::plan::End;
 use crate::rules;
@@ -33,7 +35,7 @@ pub struct Tally {
     kinds: Kinds,
 }
 
-/// The kinds of what no rule refused, study by study; of kept runs also those that were refused.
+/// The kinds of what no rule refused, study by study; of kept runs and sweeps also those that were refused.
 #[derive(Default)]
 pub struct Kinds {
     pub flows: Flows,
@@ -42,6 +44,8 @@ pub struct Kinds {
     pub timed_fault_runs: TimedFaultRuns,
     pub switching_runs: SwitchingRuns,
     pub kept_runs: KeptRuns,
+    pub sweeps: Sweeps,
+    pub kept_sweeps: KeptSweeps,
     pub detections: Detections,
     pub steps: Steps,
     pub circuits: Circuits,
@@ -51,6 +55,7 @@ impl Kinds {
     /// Adds a job with its answer.
     pub fn add(&mut self, job: &[u64], answer: &[u64]) {
         match job[0] {
+            KEPT_SWEEP => self.kept_sweeps.add(job, answer),
             number if is_kept(number) => self.kept_runs.add(job, answer),
             TIMES => {}
             number if answer[before_refusal(number)] != 0 => {}
@@ -61,6 +66,7 @@ impl Kinds {
                 .timed_fault_runs
                 .add(job, &answer[before_refusal(job[0])..]),
             SWITCHING_RUN => self.switching_runs.add(job, answer),
+            SWEEP => self.sweeps.add(job, answer),
             DETECTION => self.detections.add(job, answer),
             STEP => self.steps.add(job, answer),
             CIRCUIT => self.circuits.add(job, answer),
@@ -76,10 +82,32 @@ impl Kinds {
         all.extend(self.timed_fault_runs.counted());
         all.extend(self.switching_runs.counted());
         all.extend(self.kept_runs.counted());
+        all.extend(self.sweeps.counted());
+        all.extend(self.kept_sweeps.counted());
         all.extend(self.detections.counted());
         all.extend(self.steps.counted());
         all.extend(self.circuits.counted());
         all
+    }
+}
+
+/// How many there were, and how many of each kind.
+#[derive(Default)]
+struct Counts {
+    all: u64,
+    kinds: Vec<(&'static str, u64)>,
+}
+
+impl Counts {
+    /// Adds one more, which is of these kinds or not; the names are the same each time.
+    fn add(&mut self, met: Vec<(&'static str, bool)>) {
+        self.all += 1;
+        if self.kinds.is_empty() {
+            self.kinds = met.iter().map(|&(name, _)| (name, 0)).collect();
+        }
+        for ((_, count), (_, met)) in self.kinds.iter_mut().zip(met) {
+            *count += u64::from(met);
+        }
     }
 }
 
@@ -105,6 +133,7 @@ impl fmt::Display for Kinds {
         write!(f, "{}{}", self.flows, self.points)?;
         write!(f, "{}{}", self.fault_runs, self.switching_runs)?;
         write!(f, "{}{}", self.timed_fault_runs, self.kept_runs)?;
+        write!(f, "{}{}", self.sweeps, self.kept_sweeps)?;
         write!(f, "{}{}{}", self.detections, self.steps, self.circuits)
     }
 }
@@ -120,7 +149,7 @@ impl Tally {
         };
         *self.answers.entry((number, answer)).or_default() += 1;
         self.kinds.add(&job.numbers, numbers);
-        // The answer does not say which rule refuses a kept run.
+        // The answer does not say which rule refuses a kept run or sweep.
         if number == TIMES || is_kept(number) {
             return;
         }
@@ -139,7 +168,7 @@ impl Tally {
 }
 
 /// Accepted, or refused by one of these rules.
-const ANSWERS: [u64; 11] = [0, 1, 2, 3, 4, 5, 6, 7, 8, 9, REFUSED];
+const ANSWERS: [u64; 12] = [0, 1, 2, 3, 4, 5, 6, 7, 8, 9, 10, REFUSED];
 
 impl fmt::Display for Tally {
     fn fmt(&self, f: &mut fmt::Formatter) -> fmt::Result {

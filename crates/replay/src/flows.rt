@@ -77,8 +77,7 @@ fn point_answer(answers: &mut [u8; ROOM], c: Cursor, answer: PointAnswer) -> Aft
 
 // Whether the flow converged, the passes and the total loss.
 fn append_figures(answers: &mut [u8; ROOM], c: Cursor, solution: DcGridSolution) -> Cursor {
-    let converged = if solution.converged { 1 } else { 0 };
-    let c = numbers::append(answers, c, converged);
+    let c = numbers::append_bool(answers, c, solution.converged);
     let c = numbers::append(answers, c, solution.iterations);
     numbers::append_double(answers, c, solution.total_losses_mw)
 }

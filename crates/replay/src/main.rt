@@ -6,10 +6,11 @@ mod floats;
 mod flows;
 mod grids;
 mod numbers;
+mod refusals;
 mod run_jobs;
 mod states;
 mod steps;
-mod studies;
+mod sweep_jobs;
 mod times;
 
 use numbers::Cursor;
@@ -34,14 +35,15 @@ fn answer(lines: &mut [u8; ROOM], answers: &mut [u8; ROOM], c: Cursor) -> After 
         4 => run_jobs::fault_run(lines, answers, c),
         5 => run_jobs::switching_run(lines, answers, c),
         6 => states::detection(lines, answers, c),
-        7 => studies::sweep(lines, answers, c),
+        7 => sweep_jobs::sweep(lines, answers, c),
         8 => floats::answer(lines, answers, c),
         9 => run_jobs::kept_fault_run(lines, answers, c),
         10 => run_jobs::kept_switching_run(lines, answers, c),
+        11 => sweep_jobs::kept_sweep(lines, answers, c),
         12 => times::answer(lines, answers, c),
         13 => steps::answer(lines, answers, c),
         14 => circuits::answer(lines, answers, c),
-        15 => runs::timed_fault_run(lines, answers, c),
+        15 => run_jobs::timed_fault_run(lines, answers, c),
         _ => After::Nothing(c),
     }
 }

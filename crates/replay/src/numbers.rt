@@ -181,6 +181,12 @@ pub fn append_double(answers: &mut [u8; ROOM], c: Cursor, x: f64) -> Cursor {
     append(answers, c, float64::to_bits(x))
 }
 
+// 1 or 0.
+pub fn append_bool(answers: &mut [u8; ROOM], c: Cursor, is: bool) -> Cursor {
+    let n = if is { 1 } else { 0 };
+    append(answers, c, n)
+}
+
 // Writes out the answers that are left.
 pub fn write_rest(answers: &[u8; ROOM], c: Cursor) {
     let all: &[u8] = answers;

@@ -8,7 +8,7 @@ use crate::numbers;
 use crate::numbers::Cursor;
 use crate::numbers::ROOM;
 use crate::numbers::Taken;
-use crate::studies;
+use crate::refusals;
 use crate::times;
 use fault_runs::FaultRun;
 use fault_step::FaultVariables;
@@ -16,11 +16,12 @@ use grid::DcFaultEvent;
 use grid::DcSwitchingSimulator;
 use portions::Stop;
 use runs::DcTransientResult;
+use state_derivatives::DcTransientState;
 use switching_runs::SwitchingRun;
 use switching_step::SwitchingVariables;
 
 // The most numbers of lent memory.
-const MOST: usize = 4096;
+pub const MOST: usize = 4096;
 
 // A run after a call, and the cursor past it. An enum cannot hold an array, so that the reading has ended is a field of its own; the
 // run is then as it was.
@@ -89,7 +90,7 @@ fn run_fault(
     let run = started.run;
     let refusal = rules::number(verdict);
     if refusal > 0 {
-        return studies::up_to_refusal(lines, answers, c, refusal);
+        return refusals::up_to_refusal(lines, answers, c, refusal);
     }
     let c = numbers::append(answers, c, refusal);
     let Taken::Number(k, c) = numbers::next(lines, c) else {
@@ -117,7 +118,7 @@ pub fn switching_run(lines: &mut [u8; ROOM], answers: &mut [u8; ROOM], c: Cursor
     let run = started.run;
     let refusal = rules::number(verdict);
     if refusal > 0 {
-        return studies::up_to_refusal(lines, answers, c, refusal);
+        return refusals::up_to_refusal(lines, answers, c, refusal);
     }
     let c = numbers::append(answers, c, refusal);
     let Taken::Number(k, c) = numbers::next(lines, c) else {
@@ -238,8 +239,8 @@ fn call_switching_run(
     }
 }
 
-// How many numbers so many records have. No more than the memory has are there.
-fn numbers_of(records: u64, size: usize) -> usize
+// How many numbers so many records or rows have. No more than the memory has are there.
+pub fn numbers_of(records: u64, size: usize) -> usize
     ensures { λ r. ⌜ r ≤ 4096 ⌝ }
 {
     let most = MOST as u64;
@@ -247,7 +248,7 @@ fn numbers_of(records: u64, size: usize) -> usize
     grids::cut(numbers, most) as usize
 }
 
-fn append_portion(
+pub fn append_portion(
     answers: &mut [u8; ROOM],
     c: Cursor,
     stop: Stop,
@@ -284,8 +285,7 @@ fn append_figures(
     let c = numbers::append_double(answers, c, figures.energy_dissipated_mj);
     let c = numbers::append_double(answers, c, figures.voltage_recovery_time_ms);
     let c = numbers::append_double(answers, c, figures.max_di_dt);
-    let cleared = if figures.fault_cleared { 1 } else { 0 };
-    let c = numbers::append(answers, c, cleared);
+    let c = numbers::append_bool(answers, c, figures.fault_cleared);
     numbers::append(answers, c, steps_made)
 }
 

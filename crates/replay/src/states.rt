@@ -1,5 +1,5 @@
 // States of a grid as the jobs give them, and job 6, which looks at two.
-ghost use Prim.Native.Nat.{_≤_};
+ghost use Prim.Native.Nat.{_+_, _≤_};
 use crate::After;
 use crate::grids;
 use crate::numbers;
@@ -46,8 +46,7 @@ pub fn detection(lines: &mut [u8; ROOM], answers: &mut [u8; ROOM], c: Cursor) ->
     if refusal > 0 {
         return After::Job(c);
     }
-    let detected = if answer.detected { 1 } else { 0 };
-    After::Job(numbers::append(answers, c, detected))
+    After::Job(numbers::append_bool(answers, c, answer.detected))
 }
 
 // The time, then the state.
@@ -115,4 +114,51 @@ fn state_of(time_ms: f64, y: [f64; 96]) -> DcTransientState {
         fault_current_ka: 0.0,
         breaker_states,
     }
+}
+
+// Station voltages, station currents and cable currents, as many as the counts, but at most 32 and 64.
+pub fn append_state(
+    answers: &mut [u8; ROOM],
+    c: Cursor,
+    g: DcSwitchingSimulator,
+    state: DcTransientState,
+) -> Cursor {
+    let y = state.y;
+    let station_currents_ka = state.station_currents_ka;
+    let n = grids::cut(g.n_stations as u64, 32) as usize;
+    let m = grids::cut(g.n_cables as u64, 64) as usize;
+    let c = append_entries(answers, c, y, 0, n);
+    let c = append_currents(answers, c, station_currents_ka, n);
+    append_entries(answers, c, y, n, m)
+}
+
+// n entries from the first on.
+fn append_entries(
+    answers: &mut [u8; ROOM],
+    c: Cursor,
+    y: [f64; 96],
+    first: usize,
+    n: usize,
+) -> Cursor
+    requires { ⌜ first + n ≤ 96 ⌝ }
+{
+    let mut at = c;
+    let mut i = 0;
+    while i < n {
+        at = numbers::append_double(answers, at, y[first + i]);
+        i += 1;
+    }
+    at
+}
+
+fn append_currents(answers: &mut [u8; ROOM], c: Cursor, currents: [f64; 32], n: usize) -> Cursor
+    requires { ⌜ n ≤ 32 ⌝ }
+{
+    let mut at = c;
+    let mut i = 0;
+    while i < n {
+        at = numbers::append_double(answers, at, currents[i]);
+        i += 1;
+    }
+    at
 }

@@ -1,5 +1,4 @@
 // Job 13: one step of a grid's state. The Rust makes it inside its runs; here it can be asked for.
-ghost use Prim.Native.Nat.{_+_, _≤_};
 use crate::After;
 use crate::faults;
 use crate::faults::FaultRead;
@@ -44,13 +43,7 @@ pub fn answer(lines: &mut [u8; ROOM], answers: &mut [u8; ROOM], c: Cursor) -> Af
     let drain = handed_drain(order[0], g, fault);
     let dt_s = float64::from_bits(order[1]);
     let next = transient::rk4_step(network::network_of(g), drain, state, dt_s);
-    let y = next.y;
-    let station_currents_ka = next.station_currents_ka;
-    let n = grids::cut(g.n_stations as u64, 32) as usize;
-    let m = grids::cut(g.n_cables as u64, 64) as usize;
-    let c = append_entries(answers, c, y, 0, n);
-    let c = append_currents(answers, c, station_currents_ka, n);
-    After::Job(append_entries(answers, c, y, n, m))
+    After::Job(states::append_state(answers, c, g, next))
 }
 
 fn handed_drain(handed: u64, g: DcSwitchingSimulator, fault: DcFaultEvent) -> Drain {
@@ -58,35 +51,4 @@ fn handed_drain(handed: u64, g: DcSwitchingSimulator, fault: DcFaultEvent) -> Dr
         return network::drain_of(g, fault);
     }
     network::no_drain()
-}
-
-// n entries from the first on.
-fn append_entries(
-    answers: &mut [u8; ROOM],
-    c: Cursor,
-    y: [f64; 96],
-    first: usize,
-    n: usize,
-) -> Cursor
-    requires { ⌜ first + n ≤ 96 ⌝ }
-{
-    let mut at = c;
-    let mut i = 0;
-    while i < n {
-        at = numbers::append_double(answers, at, y[first + i]);
-        i += 1;
-    }
-    at
-}
-
-fn append_currents(answers: &mut [u8; ROOM], c: Cursor, currents: [f64; 32], n: usize) -> Cursor
-    requires { ⌜ n ≤ 32 ⌝ }
-{
-    let mut at = c;
-    let mut i = 0;
-    while i < n {
-        at = numbers::append_double(answers, at, currents[i]);
-        i += 1;
-    }
-    at
 }

@@ -1,11 +1,11 @@
 //! Jobs on grids: most fields lie well inside their ranges, and a few values stand at the ends of what the rules accept.
 
-use super::{circuits, detections, points, runs, steps, Drawn, Put, Random};
+use super::{circuits, detections, points, runs, steps, sweeps, Drawn, Put, Random};
 use crate::dc_switching::{total_steps, DcSwitchingSimulator};
 use crate::grids::{BREAKERS, CABLES, STATIONS};
 use crate::jobs::{
-    has_fault, is_kept, is_point, CIRCUIT, DETECTION, FAULT_RUN, LCC_POINT, STEP, SWEEP,
-    SWITCHING_RUN, TIMED_FAULT_RUN, TIMES, VSC_POINT,
+    has_fault, has_order, is_kept, is_point, CIRCUIT, DETECTION, FAULT_RUN, KEPT_SWEEP, LCC_POINT,
+    STEP, SWEEP, SWITCHING_RUN, TIMED_FAULT_RUN, TIMES, VSC_POINT,
 };
 use crate::numbers::double;
 use crate::plan::{Accepted, End, Field, Plan, MMC};
@@ -23,7 +23,7 @@ pub fn job(number: u64, random: &mut Random) -> Drawn {
     }
     let mut ends = Vec::new();
     for aim in aims {
-        if number == SWEEP && aim == 9 && random.below(4) == 0 {
+        if has_order(number) && aim == 9 && random.below(4) == 0 {
             set_tenths(&mut plan, random);
         } else {
             ends.extend(set_an_end(&mut plan, aim, random));
@@ -50,7 +50,9 @@ fn aims(job: u64, random: &mut Random) -> Vec<u64> {
         .map(|_| match job {
             LCC_POINT | VSC_POINT => 6,
             // The last has many fields, and every other rule comes before it.
-            _ if has_fault(job) || job == SWEEP => random.pick(&[1, 2, 3, 4, 5, 6, 7, 8, 9, 9, 9]),
+            _ if has_fault(job) || has_order(job) => {
+                random.pick(&[1, 2, 3, 4, 5, 6, 7, 8, 9, 9, 9])
+            }
             _ => 1 + random.below(8),
         })
         .collect()
@@ -108,6 +110,15 @@ fn plan(job: u64, counts: [u64; 3], random: &mut Random) -> Plan {
     if has_fault(job) {
         plan.event[0] = random.below(3);
     }
+    if has_order(job) {
+        // Often all tenths, so that either can be set to any without passing the other.
+        let low = random.below(LAST_TENTH + 1) * random.below(2);
+        let high = match random.below(2) {
+            0 => LAST_TENTH,
+            _ => low + random.below(LAST_TENTH + 1 - low),
+        };
+        plan.event[2..].copy_from_slice(&[low, high]);
+    }
     match job {
         FAULT_RUN | TIMED_FAULT_RUN => plan.rest = calls(random),
         DETECTION => plan.states = detections::states(&plan, random),
@@ -120,17 +131,14 @@ fn plan(job: u64, counts: [u64; 3], random: &mut Random) -> Plan {
             plan.rest = runs::switched(&plan, random);
             plan.rest.extend(calls(random));
         }
-        _ if is_kept(job) => plan.rest = runs::rest_of_kept(&plan, random),
         SWEEP => {
-            // Often all tenths, so that either can be set to any without passing the other.
-            let low = random.below(LAST_TENTH + 1) * random.below(2);
-            let high = match random.below(2) {
-                0 => LAST_TENTH,
-                _ => low + random.below(LAST_TENTH + 1 - low),
-            };
-            plan.event[2..].copy_from_slice(&[low, high]);
-            plan.rest = calls(random);
+            if random.below(8) > 0 {
+                sweeps::put_to_rest(&mut plan);
+            }
+            plan.rest = sweeps::few_steps(random);
         }
+        KEPT_SWEEP => plan.rest = sweeps::rest_of_kept(&plan, random),
+        _ if is_kept(job) => plan.rest = runs::rest_of_kept(&plan, random),
         _ => {}
     }
     plan
@@ -344,7 +352,7 @@ pub fn seen_in(plan: &Plan) -> Vec<Put> {
         n if n >= MOST_STEPS as u64 => add("steps", 5, beside(n, MOST_STEPS as u64)),
         _ => {}
     }
-    if plan.job == SWEEP {
+    if has_order(plan.job) {
         let [low, high] = [plan.event[2], plan.event[3]];
         if low >= high && low <= LAST_TENTH {
             add("low to high tenth", 9, beside(low, high));

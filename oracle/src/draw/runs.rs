@@ -7,7 +7,7 @@ use super::{grids, power_of_ten, Drawn, Random};
 use crate::dc_switching::{time_step_ms, total_steps};
 use crate::grids::{grid_of, Grid, BREAKERS};
 use crate::jobs::runs::{Call, Steps, MOST_SPACE};
-use crate::jobs::{has_fault, KEPT_SWITCHING_RUN, SWITCHING_RUN, TIMED_FAULT_RUN};
+use crate::jobs::{has_fault, has_order, KEPT_SWITCHING_RUN, SWITCHING_RUN, TIMED_FAULT_RUN};
 use crate::plan::{Plan, HYBRID, MECHANICAL};
 use crate::rules::{BREAKER_TIME, DURATION, INCEPTION};
 
@@ -94,7 +94,7 @@ pub fn kept(number: u64, random: &mut Random) -> Drawn {
     drawn(plan)
 }
 
-fn drawn(plan: Plan) -> Drawn {
+pub fn drawn(plan: Plan) -> Drawn {
     Drawn {
         put: seen_in(&plan),
         numbers: plan.numbers(),
@@ -121,7 +121,7 @@ pub fn switched(plan: &Plan, random: &mut Random) -> Vec<u64> {
     vec![breaker, random.below(2)]
 }
 
-fn read(plan: &Plan) -> Grid {
+pub fn read(plan: &Plan) -> Grid {
     grid_of(plan.job, &mut plan.numbers().into_iter().skip(1)).expect("a whole grid")
 }
 
@@ -132,6 +132,12 @@ fn run_grid(number: u64, random: &mut Random) -> Plan {
         plan.cables.clear();
         plan.counts[1] = 0;
     }
+    set_breakers(&mut plan, random);
+    plan
+}
+
+/// None, some, or as many as there is room for.
+pub fn set_breakers(plan: &mut Plan, random: &mut Random) {
     let breakers = match random.below(32) {
         0 => BREAKERS,
         _ => random.pick(&[0, 1, 1, 2, 3]),
@@ -139,13 +145,12 @@ fn run_grid(number: u64, random: &mut Random) -> Plan {
     plan.breakers = (0..breakers).map(|_| grids::breaker(random)).collect();
     plan.counts[2] = breakers;
     for field in plan.fields().iter().filter(|field| field.rule == 8) {
-        set_inside(&mut plan, field, random);
+        set_inside(plan, field, random);
     }
-    plan
 }
 
 /// One station and one cable, so that all records of a long run can be written.
-fn keep_few_parts(plan: &mut Plan) {
+pub fn keep_few_parts(plan: &mut Plan) {
     plan.stations.truncate(1);
     plan.cables.truncate(1);
     plan.breakers.truncate(1);
@@ -163,7 +168,7 @@ fn short_times(random: &mut Random) -> [u64; 2] {
 }
 
 /// So many that the recording interval is 1, 2 or 3, and at times beside the numbers at which it changes.
-fn long_times(random: &mut Random) -> [u64; 2] {
+pub fn long_times(random: &mut Random) -> [u64; 2] {
     let steps = match random.below(2) {
         0 => 5000 * (1 + random.below(3)) + random.below(4) - 1,
         _ => 5000 + random.below(13_000),
@@ -171,7 +176,7 @@ fn long_times(random: &mut Random) -> [u64; 2] {
     times(steps as f64, random)
 }
 
-fn times(steps: f64, random: &mut Random) -> [u64; 2] {
+pub fn times(steps: f64, random: &mut Random) -> [u64; 2] {
     let dt_us: f64 = match random.below(8) {
         0 => random.pick(&[0.0, 0.1, 1000.0]),
         1 => random.pick(&[5000.0, 1e5, 1e6]),
@@ -185,7 +190,7 @@ fn times(steps: f64, random: &mut Random) -> [u64; 2] {
 }
 
 /// Sets the fault's inception and the fastest breaker's time so that they fall on a step of the run, before it or past its end.
-fn set_moments(plan: &mut Plan, random: &mut Random) {
+pub fn set_moments(plan: &mut Plan, random: &mut Random) {
     let grid = read(plan);
     let dt_ms = time_step_ms(&grid.simulator);
     let last = total_steps(&grid.simulator) as u64 - 1;
@@ -204,6 +209,9 @@ fn set_moments(plan: &mut Plan, random: &mut Random) {
     if has_fault(plan.job) {
         plan.event[4] = inception.to_bits();
     }
+    if has_order(plan.job) {
+        plan.event[1] = inception.to_bits();
+    }
     let left = (at(last) - inception).max(0.0);
     let clearing = match random.below(8) {
         0 | 1 => 0.0,
@@ -218,7 +226,7 @@ fn set_moments(plan: &mut Plan, random: &mut Random) {
 }
 
 /// Gives one breaker the time, and those that are faster as much more.
-fn set_fastest(plan: &mut Plan, ms: f64, random: &mut Random) {
+pub fn set_fastest(plan: &mut Plan, ms: f64, random: &mut Random) {
     let Some(at) = plan.breakers.len().checked_sub(1) else {
         return;
     };

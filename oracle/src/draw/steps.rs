@@ -26,6 +26,11 @@ pub fn job(random: &mut Random) -> Drawn {
 /// the least inductance or capacitance throws the voltages far off in one step.
 pub fn grid(job: u64, random: &mut Random) -> Plan {
     let n = stations(random);
+    grid_of(n, job, random)
+}
+
+/// With that many stations.
+pub fn grid_of(n: u64, job: u64, random: &mut Random) -> Plan {
     let parts = random.pick(&[Parts::Usual, Parts::Any]);
     let mut plan = Plan::small(job);
     plan.stations = (0..n).map(|i| station(i, n, parts, random)).collect();
@@ -117,7 +122,18 @@ fn fault(cables: u64, random: &mut Random) -> Vec<u64> {
         1 => random.pick(&[0.0, -0.0, 1.0, f64::from_bits(1)]),
         _ => tenth,
     };
-    let resistance = match random.below(4) {
+    let ohms = resistance(random);
+    vec![
+        random.below(3),
+        cable,
+        held(FRACTION, fraction).to_bits(),
+        ohms,
+        Parts::Any.some(INCEPTION, &[0.0], &[1.0, 10.0], random),
+    ]
+}
+
+pub fn resistance(random: &mut Random) -> u64 {
+    let ohms = match random.below(4) {
         // The least that a drain counts with, and beside it.
         0 => {
             let least = random.pick(&[0.0, 1e-6, 1e-9]);
@@ -126,13 +142,7 @@ fn fault(cables: u64, random: &mut Random) -> Vec<u64> {
         1 => RESISTANCE.high,
         _ => power_of_ten(-3.0, 4.0, random),
     };
-    vec![
-        random.below(3),
-        cable,
-        held(FRACTION, fraction).to_bits(),
-        held(RESISTANCE, resistance).to_bits(),
-        Parts::Any.some(INCEPTION, &[0.0], &[1.0, 10.0], random),
-    ]
+    held(RESISTANCE, ohms).to_bits()
 }
 
 /// Whether the fault is handed to the step, and the step's length.

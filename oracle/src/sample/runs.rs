@@ -10,11 +10,11 @@ use crate::numbers::double;
 use crate::plan::{Plan, HYBRID, LCC, MECHANICAL, MMC, SOLID_STATE};
 use crate::rules::{INCEPTION, LAST_NUMBER, RESISTANCE};
 
-type Calls<'a> = &'a [[u64; 2]];
+pub type Calls<'a> = &'a [[u64; 2]];
 
-const MOST: u64 = u64::MAX;
+pub const MOST: u64 = u64::MAX;
 /// All at once, as far as the memory goes.
-const WHOLE: Calls = &[[MOST, 4096]];
+pub const WHOLE: Calls = &[[MOST, 4096]];
 
 pub fn runs(plans: &mut Vec<Plan>) {
     faults(plans);
@@ -36,7 +36,7 @@ pub fn runs(plans: &mut Vec<Plan>) {
     kept(plans);
 }
 
-fn breaker(kind: u64, time: f64, second: f64) -> [u64; 7] {
+pub fn breaker(kind: u64, time: f64, second: f64) -> [u64; 7] {
     let [time, second, ka, mj] = [time, second, 16.0, 10.0].map(f64::to_bits);
     [0, 0, kind, time, second, ka, mj]
 }
@@ -61,7 +61,7 @@ fn run(job: u64, calls: Calls) -> Plan {
     with_calls(plan, calls)
 }
 
-fn with_calls(mut plan: Plan, calls: Calls) -> Plan {
+pub fn with_calls(mut plan: Plan, calls: Calls) -> Plan {
     let event = if plan.job == SWITCHING_RUN { 2 } else { 0 };
     plan.rest.truncate(event);
     plan.rest.push(calls.len() as u64);
@@ -69,7 +69,7 @@ fn with_calls(mut plan: Plan, calls: Calls) -> Plan {
     plan
 }
 
-fn set_breakers(plan: &mut Plan, breakers: &[[u64; 7]]) {
+pub fn set_breakers(plan: &mut Plan, breakers: &[[u64; 7]]) {
     plan.breakers = breakers.to_vec();
     plan.counts[2] = breakers.len() as u64;
 }

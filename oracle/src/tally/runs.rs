@@ -1,6 +1,6 @@
 //! Fault runs and switching runs that no rule refused, and kept runs.
 
-use super::write_counted;
+use super::{write_counted, Counts};
 use crate::dc_switching::{fastest_clearing_ms, time_step_ms, DcBreakerType, DcFaultType};
 use crate::grids::{self, Grid};
 use crate::jobs::runs::{self, Call, Portion, Steps, Stop, MOST_SPACE, REFUSED};
@@ -8,26 +8,6 @@ use crate::jobs::KEPT_FAULT_RUN;
 use crate::numbers::double;
 use crate::rules;
 use std::fmt;
-
-/// How many there were, and how many of each kind.
-#[derive(Default)]
-struct Counts {
-    all: u64,
-    kinds: Vec<(&'static str, u64)>,
-}
-
-impl Counts {
-    /// Adds one more, which is of these kinds or not; the names are the same each time.
-    fn add(&mut self, met: Vec<(&'static str, bool)>) {
-        self.all += 1;
-        if self.kinds.is_empty() {
-            self.kinds = met.iter().map(|&(name, _)| (name, 0)).collect();
-        }
-        for ((_, count), (_, met)) in self.kinds.iter_mut().zip(met) {
-            *count += u64::from(met);
-        }
-    }
-}
 
 /// A run's calls, and what was answered to them.
 struct Run {

@@ -1,20 +1,17 @@
--- `replay::steps::append_entries` stays within the state. Assumes nothing.
-use Prim.Native.Nat.{_≤_, _+_, _-_}
+-- `replay::states::append_currents` stays within the stations. Assumes nothing.
+use Prim.Native.Nat.{_≤_, _-_}
 use borrow.Author.Needs.{needs}
-use Rattle.replay.proofs.steps.append_entries.Statement.{statement}
-use Rattle.replay.proofs.steps.append_entries.Tie as tie
+use Rattle.replay.proofs.states.append_currents.Statement.{statement}
+use Rattle.replay.proofs.states.append_currents.Tie as tie
 
 abbrev Inv-loop : tie.InvT-loop
-Inv-loop answers₀ first n y at₀ i₀ answers at i = (i ≤ n) × (first + n ≤ 96)
+Inv-loop answers₀ n currents at₀ i₀ answers at i = (i ≤ n) × (n ≤ 32)
 
 abbrev μ-loop : tie.MeasureT-loop
-μ-loop answers₀ first n y at₀ i₀ answers at i = n - i
+μ-loop answers₀ n currents at₀ i₀ answers at i = n - i
 
 loop-holds : tie.Need-loop-holds Inv-loop μ-loop
 loop-holds c = search needs
-
-add-append-double : tie.Need-add-append-double Inv-loop μ-loop
-add-append-double c = search needs
 
 mul-append-double : tie.Need-mul-append-double Inv-loop μ-loop
 mul-append-double c = search needs
@@ -37,14 +34,13 @@ loop-again c = search needs
 returns : tie.Need-returns Inv-loop μ-loop
 returns c = search needs
 
-pub append-entries-spec : {M : Type 1} → statement M
-append-entries-spec =
+pub append-currents-spec : {M : Type 1} → statement M
+append-currents-spec =
     tie.close
     (tie.spec
     Inv-loop
     μ-loop
     loop-holds
-    add-append-double
     mul-append-double
     array-read-append-double
     append-double-requires
