@@ -37,7 +37,13 @@ pub fn reasons_for(g: DcSwitchingSimulator, cable_number: u64, outcome: CaseOutc
     let cable = cable_at(g, cable_number);
     let breakers = g.breakers;
     let n = present(g.n_breakers, MOST_BREAKERS);
-    let current = some_exceeded(breakers, n, cable, Limit::BreakingCurrent, outcome.clearing_current_ka);
+    let current = some_exceeded(
+        breakers,
+        n,
+        cable,
+        Limit::BreakingCurrent,
+        outcome.clearing_current_ka,
+    );
     let energy = some_exceeded(breakers, n, cable, Limit::Energy, outcome.energy_mj);
     weight(!outcome.cleared, 1)
         + weight(outcome.cleared & current, 2)
@@ -72,7 +78,13 @@ fn cable_at(g: DcSwitchingSimulator, number: u64) -> DcCable
 }
 
 // A limit of some breaker at an end of the cable is exceeded.
-fn some_exceeded(breakers: [DcBreaker; 32], n: usize, cable: DcCable, limit: Limit, value: f64) -> bool
+fn some_exceeded(
+    breakers: [DcBreaker; 32],
+    n: usize,
+    cable: DcCable,
+    limit: Limit,
+    value: f64,
+) -> bool
     requires { ⌜ n ≤ 32 ⌝ }
     ensures { λ r. ⌜ r ≡ some n (exceededBy breakers cable limit value) ⌝ }
 {
