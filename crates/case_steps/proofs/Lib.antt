@@ -1,2 +1,3 @@
 mod Counted
 pub mod Claims
+pub mod Tied
