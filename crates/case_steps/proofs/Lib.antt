@@ -1,3 +1,4 @@
 mod Counted
+mod Controls
 pub mod Claims
-mod Tied
+pub mod Tied

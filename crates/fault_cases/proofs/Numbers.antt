@@ -38,6 +38,12 @@ module _ (o : SweepOrder) where
       rw (one, mod-one k) (omega arith))
       (lt-or-le 1 n)
 
+  -- with tenths in order it is one up to the highest
+  pub tenth-few : (k : ℕ) → o .«low_tenth» ≤ o .«high_tenth» → o .«high_tenth» ≤ 10 → o .«low_tenth» + k % tenthsOf o ≤ 10
+  tenth-few k l h =
+      rw (le-leb (o .«low_tenth») (o .«high_tenth») l, le-leb (o .«high_tenth») 10 h)
+      (omega (arith, mod-lt k {m = o .«high_tenth» - o .«low_tenth» + 1} (omega arith)))
+
 pub product-few : (n t : ℕ) → n ≤ 64 → t ≤ 11 → n * (3 * t) ≤ 2112
 product-few n t h l = omega (arith, mul-le-mul-right (3 * t) h)
 

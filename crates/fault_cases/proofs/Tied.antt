@@ -1,30 +1,31 @@
--- No function asks anything of its caller. Assumes nothing.
+-- No function asks anything of its caller.
+-- Assumes nothing.
 use contract.Lifetimes.{Lfts}
 use borrow.Fn.World.{ArgsD}
-use Rattle.fault_cases.proofs.cases.case_count as count-contract
-use Rattle.fault_cases.proofs.cases.case_count.Reads as count-reads
-use Rattle.fault_cases.proofs.cases.case_place as place-contract
-use Rattle.fault_cases.proofs.cases.case_place.Reads as place-reads
-use Rattle.fault_cases.proofs.cases.fault_at as fault-contract
-use Rattle.fault_cases.proofs.cases.fault_at.Reads as fault-reads
-use Rattle.fault_cases.proofs.reasons.reasons_for as reasons-contract
-use Rattle.fault_cases.proofs.reasons.reasons_for.Reads as reasons-reads
-use Rattle.fault_cases.proofs.row.put_row as put-contract
-use Rattle.fault_cases.proofs.row.put_row.Reads as put-reads
+use Rattle.fault_cases.proofs.cases.case_count as case-count-contract
+use Rattle.fault_cases.proofs.cases.case_count.Reads as case-count-reads
+use Rattle.fault_cases.proofs.cases.case_place as case-place-contract
+use Rattle.fault_cases.proofs.cases.case_place.Reads as case-place-reads
+use Rattle.fault_cases.proofs.cases.fault_at as fault-at-contract
+use Rattle.fault_cases.proofs.cases.fault_at.Reads as fault-at-reads
+use Rattle.fault_cases.proofs.reasons.reasons_for as reasons-for-contract
+use Rattle.fault_cases.proofs.reasons.reasons_for.Reads as reasons-for-reads
+use Rattle.fault_cases.proofs.row.put_row as put-row-contract
+use Rattle.fault_cases.proofs.row.put_row.Reads as put-row-reads
 
 module _ (κs : Lfts 0) where
-  pub count-any : (a : ArgsD count-contract.signature κs) → count-reads.Asked κs a
-  count-any a = tt
+  pub case-count-any : (a : ArgsD case-count-contract.signature κs) → case-count-reads.Asked κs a
+  case-count-any a = tt
 
-  pub place-any : (a : ArgsD place-contract.signature κs) → place-reads.Asked κs a
-  place-any a = tt
+  pub case-place-any : (a : ArgsD case-place-contract.signature κs) → case-place-reads.Asked κs a
+  case-place-any a = tt
 
-  pub fault-any : (a : ArgsD fault-contract.signature κs) → fault-reads.Asked κs a
-  fault-any a = tt
+  pub fault-at-any : (a : ArgsD fault-at-contract.signature κs) → fault-at-reads.Asked κs a
+  fault-at-any a = tt
 
-  pub reasons-any : (a : ArgsD reasons-contract.signature κs) → reasons-reads.Asked κs a
-  reasons-any a = tt
+  pub reasons-for-any : (a : ArgsD reasons-for-contract.signature κs) → reasons-for-reads.Asked κs a
+  reasons-for-any a = tt
 
 module _ (κs : Lfts 1) where
-  pub put-any : (a : ArgsD put-contract.signature κs) → put-reads.Asked κs a
-  put-any a = tt
+  pub put-row-any : (a : ArgsD put-row-contract.signature κs) → put-row-reads.Asked κs a
+  put-row-any a = tt

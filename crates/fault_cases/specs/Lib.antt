@@ -1,3 +1,4 @@
 pub mod Cases
 pub mod Reasons
 pub mod Listing
+pub mod Claims
