@@ -2,13 +2,13 @@
 use Prim.Native.Nat.{ℕ, zero, suc}
 use mathlib.Core.Bool.{Bool, false, not, _&&_, _||_, cond}
 use lib.Dec.{leb}
-use Rattle.lists.specs.Tables.{blank}
 use Rattle.float64.specs.Constants.{nought}
 use Rattle.grid.specs.declared.parts.DcFaultEvent.{DcFaultEvent}
 use Rattle.grid.specs.declared.simulator.DcSwitchingSimulator.{DcSwitchingSimulator}
 use Rattle.detection.specs.Detection.{detected}
 use Rattle.fault_step.specs.declared.variables.FaultVariables.{FaultVariables}
 use Rattle.fault_step.specs.Fault.{faultBody, beforeLoop}
+use Rattle.runs.specs.Blank.{blankState}
 use Rattle.fault_cases.specs.declared.reasons.CaseOutcome.{CaseOutcome}
 use Rattle.case_steps.specs.declared.open_case.OpenCase.{OpenCase}
 
@@ -22,7 +22,7 @@ noCase =
     record {
       variables =
           record {
-            state = record { «time_ms» = nought; y = blank 96 nought; «station_currents_ka» = blank 32 nought; «fault_current_ka» = nought; «breaker_states» = blank 32 false };
+            state = blankState;
             «peak_fault_ka» = nought;
             «max_di_dt» = nought;
             «energy_mj» = nought;

@@ -5,7 +5,7 @@ use fault_cases::CaseOutcome;
 use fault_step::FaultVariables;
 use fault_step::first_fault_variables;
 use grid::DcSwitchingSimulator;
-use state_derivatives::DcTransientState;
+use runs::blank_state;
 
 // A case after the last of its steps that is made.
 pub struct OpenCase {
@@ -32,18 +32,8 @@ pub fn first_open_case(g: DcSwitchingSimulator) -> OpenCase
 pub fn no_open_case() -> OpenCase
     ensures { λ r. ⌜ r ≡ noCase ⌝ }
 {
-    let y = [0.0; 96];
-    let station_currents_ka = [0.0; 32];
-    let breaker_states = [false; 32];
-    let state = DcTransientState {
-        time_ms: 0.0,
-        y,
-        station_currents_ka,
-        fault_current_ka: 0.0,
-        breaker_states,
-    };
     let variables = FaultVariables {
-        state,
+        state: blank_state(),
         peak_fault_ka: 0.0,
         max_di_dt: 0.0,
         energy_mj: 0.0,

@@ -1,12 +1,13 @@
 -- `no_open_case` meets its contract. Assumes nothing.
-use Rattle.lists.specs.Tables.{blank}
-use mathlib.Core.Path.{refl}
+use borrow.Author.Needs.{needs}
 use Rattle.case_steps.proofs.open_case.no_open_case.Statement.{statement}
 use Rattle.case_steps.proofs.open_case.no_open_case.Tie as tie
 
+blank-state-requires : tie.Need-blank-state-requires
+blank-state-requires c κs = search needs
+
 returns : tie.Need-returns
-unfolding blank
-returns c = refl
+returns c = rw (c .blank-state .ensures)
 
 pub no-open-case-spec : {M : Type 1} → statement M
-no-open-case-spec = tie.close (tie.spec returns)
+no-open-case-spec = tie.close (tie.spec blank-state-requires returns)
