@@ -2,6 +2,7 @@
 use Prim.Native.Nat.{ℕ, zero, suc}
 use mathlib.Core.Bool.{Bool, false, not, _&&_, _||_, cond}
 use lib.Dec.{leb}
+use lib.Ieee.{Float}
 use Rattle.float64.specs.Constants.{nought}
 use Rattle.grid.specs.declared.parts.DcFaultEvent.{DcFaultEvent}
 use Rattle.grid.specs.declared.simulator.DcSwitchingSimulator.{DcSwitchingSimulator}
@@ -51,13 +52,17 @@ outcomeIn c =
 abbrev pub countsAt : ℕ → FaultVariables → Bool
 countsAt step before = leb 1 step && not (before .«fault_cleared»)
 
+-- the clearing-step current after a step: that step's, if the fault is cleared in it, and else the one from before
+abbrev pub clearingAfter : (clearedBefore : Bool) → FaultVariables → (before : Float) → Float
+clearingAfter clearedBefore after before = cond (not clearedBefore && after .«fault_cleared») (after .state .«fault_current_ka») before
+
 -- a step that leads from some variables to others, where `shows` says whether it is detected
 abbrev pub stepped : (shows : Bool) → ℕ → OpenCase → FaultVariables → OpenCase
 stepped shows step c after =
     record {
       variables = after;
       detected = c .detected || (countsAt step (c .variables) && shows);
-      «clearing_current_ka» = cond (not (c .variables .«fault_cleared») && after .«fault_cleared») (after .state .«fault_current_ka») (c .«clearing_current_ka»);
+      «clearing_current_ka» = clearingAfter (c .variables .«fault_cleared») after (c .«clearing_current_ka»);
     }
 
 -- step number `step` of the case of a fault

@@ -1,7 +1,8 @@
 // Steps of a case, one by one: a step of its fault run, and what the reasons ask of that step.
 ghost use mathlib.Core.Path.{_≡_};
-ghost use mathlib.Core.Bool.{cond};
+ghost use mathlib.Core.Bool.{true};
 ghost use Prim.Native.Nat.{_-_};
+ghost use Rattle.case_steps.specs.OpenCases.{clearingAfter};
 ghost use Rattle.case_steps.specs.Plans.{planDetected, planCaseStep, planCaseFrom};
 use crate::open_case::OpenCase;
 use detection::detects;
@@ -16,10 +17,48 @@ pub fn case_steps(plan: FaultPlan, first: u64, end: u64, start: OpenCase) -> Ope
     let mut c = start;
     let mut step = first;
     while step < end {
+        if c.detected {
+            return detected_steps(plan, step, end, c);
+        }
         c = case_step(plan, step, c);
         step += 1;
     }
     c
+}
+
+// The same of a case in which a step is detected: none is looked at any more, and the variables alone are carried along.
+fn detected_steps(plan: FaultPlan, first: u64, end: u64, start: OpenCase) -> OpenCase
+    requires { ⌜ start .detected ≡ true ⌝ }
+    ensures { λ r. ⌜ r ≡ planCaseFrom plan first start (end - first) ⌝ }
+{
+    let mut v = start.variables;
+    let mut clearing_current_ka = start.clearing_current_ka;
+    let mut step = first;
+    while step < end {
+        let cleared = v.fault_cleared;
+        v = fault_step(plan, step, v);
+        clearing_current_ka = clearing_current(cleared, v, clearing_current_ka);
+        step += 1;
+    }
+    OpenCase {
+        variables: v,
+        detected: true,
+        clearing_current_ka,
+    }
+}
+
+// The fault current of a step that clears the fault, and else the one from before.
+fn clearing_current(cleared_before: bool, after: FaultVariables, before_ka: f64) -> f64
+    ensures { λ r. ⌜ r ≡ clearingAfter «cleared_before» after «before_ka» ⌝ }
+{
+    if cleared_before {
+        return before_ka;
+    }
+    if after.fault_cleared {
+        let state = after.state;
+        return state.fault_current_ka;
+    }
+    before_ka
 }
 
 fn case_step(plan: FaultPlan, step: u64, c: OpenCase) -> OpenCase
@@ -27,12 +66,10 @@ fn case_step(plan: FaultPlan, step: u64, c: OpenCase) -> OpenCase
 {
     let before = c.variables;
     let after = fault_step(plan, step, before);
-    let state = after.state;
-    let clears = !before.fault_cleared & after.fault_cleared;
     OpenCase {
         variables: after,
         detected: is_detected(plan, step, c, after),
-        clearing_current_ka: choose(clears, state.fault_current_ka, c.clearing_current_ka),
+        clearing_current_ka: clearing_current(before.fault_cleared, after, c.clearing_current_ka),
     }
 }
 
@@ -53,10 +90,4 @@ fn is_detected(plan: FaultPlan, step: u64, c: OpenCase, after: FaultVariables) -
     let state = after.state;
     let prev = before.state;
     detects(&rated, network.n_stations, network.n_cables, state, prev)
-}
-
-fn choose(test: bool, yes: f64, no: f64) -> f64
-    ensures { λ r. ⌜ r ≡ cond test yes no ⌝ }
-{
-    if test { yes } else { no }
 }

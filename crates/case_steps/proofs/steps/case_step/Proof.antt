@@ -10,16 +10,13 @@ fault-step-requires c κs = search needs
 is-detected-requires : tie.Need-is-detected-requires
 is-detected-requires c κs = search needs
 
-choose-requires : tie.Need-choose-requires
-choose-requires c κs = search needs
+clearing-current-requires : tie.Need-clearing-current-requires
+clearing-current-requires c κs = search needs
 
 returns : tie.Need-returns
 unfolding planCaseStep
-returns c =
-    let d = c .before in
-    let f = d .before .before .before .before in
-    rw (c .choose .ensures, d .is-detected .ensures, f .fault-step .ensures)
+returns c = rw (c .clearing-current .ensures, c .before .is-detected .ensures, c .before .before .fault-step .ensures)
 
 pub case-step-spec : {M : Type 1} → statement M
 case-step-spec =
-    tie.close (tie.spec fault-step-requires is-detected-requires choose-requires returns)
+    tie.close (tie.spec fault-step-requires is-detected-requires clearing-current-requires returns)

@@ -17,6 +17,12 @@ abbrev μ-loop : tie.MeasureT-loop
 loop-holds : tie.Need-loop-holds Inv-loop μ-loop
 loop-holds c = refl
 
+detected-steps-requires : tie.Need-detected-steps-requires Inv-loop μ-loop
+detected-steps-requires c κs = c .if1 .taken
+
+returns : tie.Need-returns Inv-loop μ-loop
+returns c = c .detected-steps .ensures ∙ c .before .before .before .loop .inv
+
 case-step-requires : tie.Need-case-step-requires Inv-loop μ-loop
 case-step-requires c κs = search needs
 
@@ -29,15 +35,15 @@ loop-less c = search needs
 loop-again : tie.Need-loop-again Inv-loop μ-loop
 unfolding planCaseFrom
 loop-again c =
-    let t = c .before in
+    let t = c .before .before in
     let l = t .before in
     let a = l .before .args in
     let e : a .end - l .loop .step ≡ suc (a .end - (l .loop .step + 1)) = omega (arith, t .loop-test .taken) in
     rw (c .case-step .ensures, add-one) (rw (e, add-one) at (l .loop .inv))
 
-returns : tie.Need-returns Inv-loop μ-loop
+returns-2 : tie.Need-returns-2 Inv-loop μ-loop
 unfolding planCaseFrom
-returns c =
+returns-2 c =
     let l = c .before in
     let e : l .before .args .end - l .loop .step ≡ 0 = omega (arith, c .loop-test .left) in
     rw e at (l .loop .inv)
@@ -45,4 +51,4 @@ returns c =
 pub case-steps-spec : {M : Type 1} → statement M
 case-steps-spec =
     tie.close
-    (tie.spec Inv-loop μ-loop loop-holds case-step-requires add-step loop-less loop-again returns)
+    (tie.spec Inv-loop μ-loop loop-holds detected-steps-requires returns case-step-requires add-step loop-less loop-again returns-2)
