@@ -6,3 +6,4 @@ mod Fresh
 pub mod Claims
 pub mod Refusals
 pub mod Tied
+mod Controls
