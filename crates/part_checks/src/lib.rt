@@ -2,6 +2,8 @@
 mod accepted;
 mod positions;
 
+pub use accepted::check_breaker;
+pub use accepted::check_cable;
 pub use accepted::check_event;
 pub use accepted::check_order;
 pub use accepted::check_station;

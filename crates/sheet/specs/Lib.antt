@@ -1,0 +1,5 @@
+pub mod Ordered
+pub mod Sheets
+pub mod Taken
+pub mod Bytes
+pub mod Answers

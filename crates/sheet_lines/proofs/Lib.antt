@@ -1,0 +1,2 @@
+mod Right
+pub mod WrongLines

@@ -1,0 +1,60 @@
+-- `is_formed` meets its contract. Assumes nothing.
+use mathlib.Core.Path.{_≡_, refl, sym, _∙_, ap}
+use borrow.Author.Tests.{eq-eqb, ne-eqb}
+use Rattle.sheet_lines.specs.Fields.{formed}
+use borrow.Author.Needs.{needs}
+use Rattle.sheet_lines.proofs.fields.is_formed.Statement.{statement}
+use Rattle.sheet_lines.proofs.fields.is_formed.Tie as tie
+
+add-end : tie.Need-add-end
+add-end c = search needs
+
+mul-end : tie.Need-mul-end
+mul-end c = search needs
+
+add-end-2 : tie.Need-add-end-2
+add-end-2 c = search needs
+
+add-if1 : tie.Need-add-if1
+add-if1 c = search needs
+
+returns : tie.Need-returns
+unfolding formed
+returns c = simp (ne-eqb _ _ (c .if1 .taken))
+
+shared-slice-read-if2 : tie.Need-shared-slice-read-if2
+shared-slice-read-if2 c = search needs
+
+returns-2 : tie.Need-returns-2
+unfolding formed
+returns-2 c = simp (eq-eqb _ _ (c .before .before .if1 .left), ne-eqb _ _ (c .if2 .taken))
+
+are-whole-requires : tie.Need-are-whole-requires
+are-whole-requires c κs = search needs
+
+are-real-requires : tie.Need-are-real-requires
+are-real-requires c κs = search needs
+
+returns-3 : tie.Need-returns-3
+unfolding formed
+returns-3 c = simp (eq-eqb _ _ (c .before .before .before .before .before .if1 .left), eq-eqb _ _ (c .before .before .before .if2 .left), sym (c .before .before .are-whole .ensures) ∙ c .before .if3 .taken) (c .are-real .ensures)
+
+returns-4 : tie.Need-returns-4
+unfolding formed
+returns-4 c = simp (eq-eqb _ _ (c .before .before .before .before .if1 .left), eq-eqb _ _ (c .before .before .if2 .left), sym (c .before .are-whole .ensures) ∙ c .if3 .left)
+
+pub is-formed-spec : {M : Type 1} → statement M
+is-formed-spec =
+    tie.close
+    (tie.spec
+    add-end
+    mul-end
+    add-end-2
+    add-if1
+    returns
+    shared-slice-read-if2
+    returns-2
+    are-whole-requires
+    are-real-requires
+    returns-3
+    returns-4)

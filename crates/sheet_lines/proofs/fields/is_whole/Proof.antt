@@ -1,0 +1,31 @@
+-- `is_whole` meets its contract. Assumes nothing.
+use mathlib.Core.Path.{sym, _∙_, ap}
+use native.Mathlib.Omega.{arith}
+use borrow.Author.Needs.{needs}
+use Rattle.sheet_lines.specs.Fields.{found}
+use Rattle.sheet_lines.proofs.fields.is_whole.Statement.{statement}
+use Rattle.sheet_lines.proofs.fields.is_whole.Tie as tie
+
+mul-at : tie.Need-mul-at
+mul-at c = omega arith
+
+add-at : tie.Need-add-at
+add-at c = omega arith
+
+whole-at-requires : tie.Need-whole-at-requires
+whole-at-requires c κs = search needs
+
+enum-told : tie.Need-enum-told
+enum-told c = search needs
+
+enum-told-2 : tie.Need-enum-told-2
+enum-told-2 c = search needs
+
+returns : tie.Need-returns
+returns c = ap found (sym (c .enum-told2 .given .1) ∙ c .before .before .whole-at .ensures)
+
+returns-2 : tie.Need-returns-2
+returns-2 c = ap found (sym (c .enum-told .given .1) ∙ c .before .before .whole-at .ensures)
+
+pub is-whole-spec : {M : Type 1} → statement M
+is-whole-spec = tie.close (tie.spec mul-at add-at whole-at-requires enum-told enum-told-2 returns returns-2)
