@@ -1,0 +1,4 @@
+pub mod Fields
+pub mod Scanning
+pub mod Printed
+pub mod Glyphs
