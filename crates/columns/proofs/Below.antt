@@ -25,10 +25,10 @@ pub record Limited (d : Decimal) : Type 0 where
   pub below : d .digits < 10 ^ 12
   pub at-most : d .places ≤ 6
 
-number-wrong {ℓ} : {P : Type ℓ} (d : Decimal) → Wrong ≡ Number d → P
+pub number-wrong {ℓ} : {P : Type ℓ} (d : Decimal) → Wrong ≡ Number d → P
 number-wrong d e = let z : _≡_ {A = ℕ} 0 1 = cc in absurd (omega arith)
 
-number-same : (d e : Decimal) → Number d ≡ Number e → d ≡ e
+pub number-same : (d e : Decimal) → Number d ≡ Number e → d ≡ e
 number-same d e h = cc
 
 limited : (d : Decimal) (s : Scan) → answerOf s ≡ Number d → Small 12 s → Limited d

@@ -6,3 +6,5 @@ pub mod Ways
 pub mod Divide
 pub mod Cells
 pub mod Justified
+pub mod Spelled
+pub mod RoundTrip
