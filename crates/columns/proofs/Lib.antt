@@ -8,3 +8,4 @@ pub mod Cells
 pub mod Justified
 pub mod Spelled
 pub mod RoundTrip
+pub mod NearestValue
