@@ -9,3 +9,6 @@ pub mod Justified
 pub mod Spelled
 pub mod RoundTrip
 pub mod NearestValue
+pub mod Claims
+pub mod Tied
+pub mod Controls

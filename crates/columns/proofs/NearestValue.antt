@@ -182,7 +182,7 @@ five-odd (suc p) = rw pow-suc (odd-times (5 ^ p) 5 (five-odd p) refl)
 
 ten : (p : ℕ) → 10 ^ p ≡ 5 ^ p * 2 ^ p
 ten zero = refl
-ten (suc p) = rw (pow-suc, pow-suc, pow-suc) (ap (λ (z : ℕ). z * 10) (ten p) ∙ moved (5 ^ p) (2 ^ p))
+ten (suc p) = rw (pow-suc 10 p, pow-suc 5 p, pow-suc 2 p) (ap (λ (z : ℕ). z * 10) (ten p) ∙ moved (5 ^ p) (2 ^ p))
   where
     moved : (f t : ℕ) → f * t * 10 ≡ f * 5 * (t * 2)
     moved f t = omega arith
@@ -201,6 +201,7 @@ odd-part m a i j o e = elim (lt-or-le i j) [
   where
     some : {i j : ℕ} → i < j → 0 < j - i
     some l = omega arith
+
     even : (d : ℕ) → 0 < d → m ≡ a * 2 ^ d → ⊥
     even zero D y = absurd (lt-irrefl 0 D)
     even (suc d) D y = twice (a * 2 ^ d) (y ∙ ap (λ (z : ℕ). a * z) (pow-succ' 2 d) ∙ mul-left-comm a 2 (2 ^ d))
@@ -213,22 +214,26 @@ module _ (a p k : ℕ) (small : a < 10 ^ 12) (few : p ≤ 6) where
   never-half s o big e =
       let m = s * 5 ^ p in
       let f : m * 2 ^ (p + k) ≡ a * 2 ^ 1075 =
-          ap (λ (z : ℕ). m * z) (pow-add 2 p k) ∙ regrouped s (5 ^ p) (2 ^ p) (2 ^ k) ∙ ap (λ (z : ℕ). s * (z * 2 ^ k)) (sym (ten p)) ∙ e ∙ mul-assoc a (2 ^ 1074) 2 ∙ ap (λ (z : ℕ). a * z) (sym (pow-suc 2 1074)) in
+      ap (λ (z : ℕ). m * z) (pow-add 2 p k) ∙ regrouped s (5 ^ p) (2 ^ p) (2 ^ k) ∙ ap (λ (z : ℕ). s * (z * 2 ^ k)) (sym (ten p)) ∙ e ∙ mul-assoc a (2 ^ 1074) 2 ∙ ap (λ (z : ℕ). a * z) (sym (pow-suc 2 1074)) in
       let w = odd-part m a (p + k) 1075 (odd-times s (5 ^ p) o (five-odd p)) f in
       too-big (at-least (five-at-least p) (pow-pos (p + k - 1075)) (w .1)) (big (far (w .0)))
     where
       regrouped : (s f t u : ℕ) → s * f * (t * u) ≡ s * (f * t * u)
       regrouped s f t u = omega arith
+
       far : 1075 ≤ p + k → 0 < k
       far h = omega arith
+
       five-at-least : (p : ℕ) → 0 < 5 ^ p
       five-at-least p = one-le-pow p 5 (omega arith)
+
       at-least : {f t : ℕ} → 0 < f → 0 < t → s * f * t ≡ a → s ≤ a
       at-least {f} {t} F G e =
           le-trans (grow s f F) (le-trans (grow (s * f) t G) (le-of-eq e))
         where
           grow : (x y : ℕ) → 0 < y → x ≤ x * y
           grow x y Y = le-mul-of-pos-right x Y
+
       too-big : s ≤ a → 2 ^ 52 ≤ s → ⊥
       too-big h b = omega arith
 
@@ -248,8 +253,10 @@ module _ (a p k : ℕ) (small : a < 10 ^ 12) (few : p ≤ 6) where
           none : zero * u * 2 ≡ n * 2 + u → ⊥
           none e = omega arith
       above (suc q) n u U e = let m : 2 * suc q - 1 ≡ 2 * q + 1 = omega arith in rw m (omega arith)
+
       below : (q n u : ℕ) → n * 2 ≡ q * u * 2 + u → (2 * q + 1) * u ≡ n * 2
       below q n u e = omega arith
+
       within : (n u : ℕ) → 0 < u → Half (q * u) n u → (0 < k → 2 ^ 52 * u ≤ n) → ((s : ℕ) → s % 2 ≡ 1 → (0 < k → 2 ^ 52 ≤ s) → s * u ≡ n * 2 → ⊥) → Less (q * u) n u
       within n u U h r never = record {
         over = strict (q * u * 2) (n * 2 + u) (h .over) (λ e. let f = above q n u U e in never (2 * q - 1) (odd-below q e) (λ K. halves (2 * q - 1) n u U (r K) f) f);
@@ -258,8 +265,10 @@ module _ (a p k : ℕ) (small : a < 10 ^ 12) (few : p ≤ 6) where
         where
           strict : (x y : ℕ) → x ≤ y → (x ≡ y → ⊥) → x < y
           strict x y h d = omega arith
+
           odd-above : (q : ℕ) → (2 * q + 1) % 2 ≡ 1
           odd-above q = omega arith
+
           odd-below : (q : ℕ) → q * u * 2 ≡ n * 2 + u → (2 * q - 1) % 2 ≡ 1
           odd-below zero e = absurd (none e)
             where
@@ -293,10 +302,13 @@ module _ (a p : ℕ) (small : a < 10 ^ 12) (few : p ≤ 6) where
     where
       million : 10 ^ 6 ≤ 2 ^ 1074
       million = lit≤ tt
+
       more : (x y : ℕ) → y ≤ x + y
       more x y = omega arith
+
       above : (k ≡ 0 → ⊥) → 0 < k
       above d = omega arith
+
       under : (u n N : ℕ) → 2 ^ 52 * u ≤ n → u ≤ n + N
       under u n N h = omega arith
 
@@ -309,6 +321,7 @@ module _ (a p : ℕ) (small : a < 10 ^ 12) (few : p ≤ 6) where
     where
       bounded : (N u Q : ℕ) → 0 < N → u ≤ a * N + N → Q * 2 ≤ a * N * 2 + u → Q < (2 * a + 2) * N
       bounded N u Q P l h = omega arith
+
       few-digits : 2 * a + 2 ≤ 2 ^ 1024
       few-digits = let h : 2 * a + 2 ≤ 2 ^ 50 = omega arith in le-trans h (lit≤ tt)
 

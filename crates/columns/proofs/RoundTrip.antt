@@ -73,13 +73,13 @@ plain-field k w l e =
     whole-kept w e = subst (λ z. afterSpaces z ≡ z) (mathlib.Core.List.append-nil w) (kept w [] e)
 
 pub pointed-field : (k : ℕ) (w f : List ℕ) → length (replicate k 32 ++ (w ++ (46 ∷ f))) ≡ 12 → someDigits w ≡ true → someDigits f ≡ true → length f ≤ 6
-  → fieldOf (replicate k 32 ++ (w ++ (46 ∷ f))) ≡ Number (record { digits = number (w ++ f); places = length f })
+    → fieldOf (replicate k 32 ++ (w ++ (46 ∷ f))) ≡ Number (record { digits = number (w ++ f); places = length f })
 pointed-field k w f l e g m =
     of-12 (replicate k 32 ++ (w ++ (46 ∷ f))) l
     ∙ ap (λ bs. decimalOf (split bs)) (spaces k (w ++ (46 ∷ f)) ∙ kept w (46 ∷ f) e)
     ∙ ap decimalOf (pointed w f (all-of w e))
     ∙ ap (λ t. cond t (Number (record { digits = number (w ++ f); places = length f })) Wrong)
-      (both (someDigits w) (someDigits f && leb (length f) 6) e (both (someDigits f) (leb (length f) 6) g (le-leb (length f) 6 m)))
+    (both (someDigits w) (someDigits f && leb (length f) 6) e (both (someDigits f) (leb (length f) 6) g (le-leb (length f) 6 m)))
 
 -- ---- from the parts to the pieces
 some-spaces : (cs : List ℕ) → (k : ℕ) × (cs ≡ replicate k 32 ++ afterSpaces cs)
@@ -123,7 +123,10 @@ module _ (cs : List ℕ) (d : Decimal) (k : ℕ) where
           let r = right (someDigits w) (someDigits f && leb (length f) 6) q in
           inr
           (record {
-            spaces = k; whole = w; fraction = f; made-of = e;
+            spaces = k;
+            whole = w;
+            fraction = f;
+            made-of = e;
             whole-digits = left (someDigits w) (someDigits f && leb (length f) 6) q;
             fraction-digits = left (someDigits f) (leb (length f) 6) r;
             fraction-most = leb-true (length f) 6 (right (someDigits f) (leb (length f) 6) r);
@@ -184,5 +187,6 @@ decimal-back digits (suc p) h k =
   where
     rejoined : (p : ℕ) → p ≤ 6 → 11 - p + p ≡ 11
     rejoined p h = omega arith
+
     below : (n u : ℕ) → n < 10 ^ 11 → n / u < 10 ^ 20
     below n u h = omega (arith, native.Mathlib.Nat.div-le-self n u)

@@ -48,7 +48,7 @@ more-digits k n e s =
       some = rw length-append (omega arith);
       all = digits-append (numeral k (n / 10)) ((48 + n % 10) ∷ []) (s .all) (a-digit (n % 10) (omega arith));
       is = number-append 0 (numeral k (n / 10)) ((48 + n % 10) ∷ []) ∙ ap (λ m. m * 10 + ((48 + n % 10) - 48)) (s .is) ∙ omega arith;
-      first = λ p z. s .first (omega arith) (sym (first-kept (numeral k (n / 10)) ((48 + n % 10) ∷ []) (s .some)) ∙ z)
+      first = λ p z. s .first (omega arith) (sym (first-kept (numeral k (n / 10)) ((48 + n % 10) ∷ []) (s .some)) ∙ z);
     })
 
 spells : (k n : ℕ) → n < 10 ^ suc k → Spells (numeral (suc k) n) n
@@ -74,8 +74,9 @@ few (suc k) w n h = go (ltb n 10) refl w h (λ v. few k v (n / 10))
     more : (w : ℕ) → n < 10 ^ suc w → 10 ≤ n → ((v : ℕ) → n / 10 < 10 ^ suc v → length (numeral k (n / 10)) ≤ suc v) → length (numeral k (n / 10) ++ ((48 + n % 10) ∷ [])) ≤ suc w
     more zero h l r = absurd (omega arith)
     more (suc w) h l r = rw length-append (omega (arith, r w (shorter n (suc w) h)))
+
     go : (t : Bool) → ltb n 10 ≡ t → (w : ℕ) → n < 10 ^ suc w → ((v : ℕ) → n / 10 < 10 ^ suc v → length (numeral k (n / 10)) ≤ suc v)
-      → length (cond t ((48 + n) ∷ []) (numeral k (n / 10) ++ ((48 + n % 10) ∷ []))) ≤ suc w
+        → length (cond t ((48 + n) ∷ []) (numeral k (n / 10) ++ ((48 + n % 10) ∷ []))) ≤ suc w
     go true e w h r = omega arith
     go false e w h r = more w h (ltb-false n 10 e) r
 
