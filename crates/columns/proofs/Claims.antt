@@ -29,9 +29,9 @@ nought : digitsOf 0 ≡ 48 ∷ []
 unfolding digitsOf
 nought = refl
 
-spaces-then-digits : (width n : ℕ) → 0 < width → n < 10 ^ width → n < 2 ^ 64 → rightJustified width n ≡ replicate (width - length (digitsOf n)) 32 ++ digitsOf n
+spaces-then-digits : (width n : ℕ) → 0 < width → n < 10 ^ width → rightJustified width n ≡ replicate (width - length (digitsOf n)) 32 ++ digitsOf n
 unfolding rightJustified
-spaces-then-digits width n p h k = spaces-before width (digitsOf n) (few-digits width n p h)
+spaces-then-digits width n p h = spaces-before width (digitsOf n) (few-digits width n p h)
 
 pub printed-claims : PrintedClaims
 printed-claims =

@@ -57,7 +57,7 @@ pub record PrintedClaims : Type 0 where
   -- as many bytes as there are columns
   pub columns : (width n : ℕ) → length (rightJustified width n) ≡ width
   -- spaces and then the digits, where the columns hold these
-  pub spaces-then-digits : (width n : ℕ) → 0 < width → n < 10 ^ width → n < 2 ^ 64 → rightJustified width n ≡ replicate (width - length (digitsOf n)) 32 ++ digitsOf n
+  pub spaces-then-digits : (width n : ℕ) → 0 < width → n < 10 ^ width → rightJustified width n ≡ replicate (width - length (digitsOf n)) 32 ++ digitsOf n
   -- digits and nothing else, and they spell the number
   pub only-digits : (n : ℕ) → n < 2 ^ 64 → someDigits (digitsOf n) ≡ true
   pub spelled : (n : ℕ) → n < 2 ^ 64 → number (digitsOf n) ≡ n

@@ -2,6 +2,7 @@
 ghost use mathlib.Core.Path.{_≡_};
 ghost use lib.ListN.{take, drop};
 ghost use Rattle.columns.specs.Fields.{fieldOf, wholeOf, realOf};
+use crate::scan::FIELD_WIDTH;
 use crate::scan::scanned;
 use crate::value::nearest_double;
 
@@ -33,7 +34,7 @@ pub fn field_at(line: &[u8], at: usize) -> Field
     if at > line.len() {
         return Field::Wrong;
     }
-    if line.len() - at < 12 {
+    if line.len() - at < FIELD_WIDTH {
         return Field::Wrong;
     }
     scanned(line, at)

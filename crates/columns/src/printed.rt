@@ -30,7 +30,7 @@ fn put_digits(out: &mut [u8], at: usize, width: usize, n: u64)
 {
     let mut j = width - 1;
     let mut rest = n / 10;
-    out[at + j] = 48 + (n % 10) as u8;
+    out[at + j] = b'0' + (n % 10) as u8;
     while j > 0 {
         j -= 1;
         out[at + j] = glyph(rest);
@@ -43,8 +43,8 @@ fn glyph(rest: u64) -> u8
     ensures { λ r. ⌜ r ≡ glyphOf rest ⌝ }
 {
     if rest == 0 {
-        32
+        b' '
     } else {
-        48 + (rest % 10) as u8
+        b'0' + (rest % 10) as u8
     }
 }

@@ -10,6 +10,9 @@ use crate::fields::Field;
 // The columns of a field.
 pub const FIELD_WIDTH: usize = 12;
 
+// The digits after a point.
+const MOST_PLACES: u64 = 6;
+
 // How far a field is read: in its spaces, in its digits so far, in the digits after its point and how many of them, or not a field.
 pub enum Scan {
     Spaces,
@@ -39,37 +42,37 @@ fn scan_step(s: Scan, b: u8) -> Scan
 {
     match s {
         Scan::Spaces => {
-            if b == 32 {
+            if b == b' ' {
                 return Scan::Spaces;
             }
-            if b < 48 {
+            if b < b'0' {
                 return Scan::Bad;
             }
-            if b > 57 {
+            if b > b'9' {
                 return Scan::Bad;
             }
-            Scan::Digits((b - 48) as u64)
+            Scan::Digits((b - b'0') as u64)
         }
         Scan::Digits(n) => {
-            if b == 46 {
+            if b == b'.' {
                 return Scan::Fraction(n, 0);
             }
-            if b < 48 {
+            if b < b'0' {
                 return Scan::Bad;
             }
-            if b > 57 {
+            if b > b'9' {
                 return Scan::Bad;
             }
-            Scan::Digits(n * 10 + (b - 48) as u64)
+            Scan::Digits(n * 10 + (b - b'0') as u64)
         }
         Scan::Fraction(n, p) => {
-            if b < 48 {
+            if b < b'0' {
                 return Scan::Bad;
             }
-            if b > 57 {
+            if b > b'9' {
                 return Scan::Bad;
             }
-            Scan::Fraction(n * 10 + (b - 48) as u64, p + 1)
+            Scan::Fraction(n * 10 + (b - b'0') as u64, p + 1)
         }
         Scan::Bad => Scan::Bad,
     }
@@ -89,7 +92,7 @@ fn answer(s: Scan) -> Field
             if p == 0 {
                 return Field::Wrong;
             }
-            if p > 6 {
+            if p > MOST_PLACES {
                 return Field::Wrong;
             }
             Field::Number(Decimal {
