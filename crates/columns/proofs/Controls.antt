@@ -4,10 +4,9 @@ use mathlib.Core.Path.{_≡_, refl}
 use mathlib.Core.List.{List, [], _∷_, _++_}
 use Prim.Native.Nat.{ℕ, _-_}
 use lib.ListN.{length, replicate}
-use lib.Ieee.{Float, binary64, ofBits, round, size}
+use lib.Ieee.{binary64, ofBits, round, size}
 use Rattle.columns.specs.Fields.{fieldOf, wholeOf, realOf}
 use Rattle.columns.specs.Printed.{digitsOf, rightJustified, withNumber, printedDecimal}
-use Rattle.columns.specs.declared.fields.Decimal.{Decimal}
 use Rattle.columns.specs.declared.fields.Field.{Field}
 use Rattle.columns.specs.declared.fields.Field.the-variants as field
 use Rattle.columns.specs.declared.fields.WholeField.the-variants as whole

@@ -4,7 +4,7 @@ use mathlib.Core.Path.{_≡_, refl, sym, _∙_, ap}
 use mathlib.Core.Bool.{Bool, true, false, cond}
 use mathlib.Core.List.{List, [], _∷_, _++_, append-assoc, append-nil}
 use native.Mathlib.Omega.{arith}
-use native.Mathlib.Nat.{div-eq-of-lt, mod-eq-of-lt, div-lt-iff-lt-mul, pow-suc, add-suc, add-zero}
+use native.Mathlib.Nat.{div-eq-of-lt, mod-eq-of-lt, div-lt-iff-lt-mul, pow-suc, add-zero}
 use native.Mathlib.Numerals.{sub-one, add-one}
 use lib.Dec.{ltb, leb}
 use lib.ListN.{length, set, take, drop, replicate, take-append-drop, length-append, length-replicate, length-drop, replicate-append-replicate}

@@ -1,23 +1,23 @@
 -- A fraction of whole numbers, rounded once, is the nearest double. Where its divisor is a power of ten and it has few digits, no other double is as near. Assumes nothing.
 use mathlib.Core.Path.{_≡_, refl, sym, ap, _∙_, subst}
 use mathlib.Core.Logic.{inl, inr}
-use mathlib.Core.Bool.{Bool, true, false, not}
+use mathlib.Core.Bool.{false, not}
 use Prim.Native.Nat.{ℕ, zero, suc, _+_, _-_, _*_, _/_, _%_, _^_, _≤_, _<_, compare, Ordering, Ordering·lt, Ordering·eq, Ordering·gt}
-use native.Mathlib.Nat.{le-of-lt, le-of-eq, le-trans, lt-of-lt-of-le, lt-of-le-of-lt, lt-of-not-le, not-le-of-lt, le-of-suc-le-suc, mod-lt, mul-le-mul-right, mul-lt-mul-of-pos-right, mul-assoc, mul-comm, mul-left-comm, mul-right-comm, mul-pos, mul-one, one-mul, div-add-mod', le-div-iff-mul-le, eq-of-mul-eq-mul-right, pow-suc, pow-succ', one-le-pow, pow-le-pow-right, le-mul-of-pos-right, lt-irrefl}
+use native.Mathlib.Nat.{le-of-lt, le-of-eq, le-trans, lt-of-lt-of-le, lt-of-le-of-lt, lt-of-not-le, not-le-of-lt, le-of-suc-le-suc, mod-lt, mul-le-mul-right, mul-lt-mul-of-pos-right, mul-assoc, mul-comm, mul-left-comm, mul-pos, mul-one, div-add-mod', le-div-iff-mul-le, eq-of-mul-eq-mul-right, pow-suc, pow-succ', one-le-pow, pow-le-pow-right, le-mul-of-pos-right, lt-irrefl}
 use native.Mathlib.Omega.{arith}
 use lib.Dec.{T, lit≤, isLe, isEq, leb→le, nleb→lt, eqb→eq}
 use lib.Pow.{pow-add, pow-pos, pow-mono}
-use lib.Ieee.{Float, nan, inf, fin, binary64, fits, low, prec, size, down, toBits, nearest, round}
+use lib.Ieee.{Float, nan, inf, fin, binary64, fits, size, down, toBits, nearest, round}
 use lib.Ieee.Digits.{size-reaches, back}
 use lib.Ieee.Fits.{down-pos, round-fits}
 use lib.Ieee.Nearest.{closest}
 use lib.Ieee.Order.{drop, kept}
 use lib.Ieee.Positive.{positive, positive-of-value}
-use lib.Ieee.Scale.{grid, overflow, round-val}
+use lib.Ieee.Scale.{round-val}
 use Rattle.lists.proofs.Counting.{compared, lt-or-le, eq-or-ne}
 use Rattle.float64.proofs.Fields.{read, unitsAt}
 use Rattle.float64.proofs.SameValue.{same-value}
-use Rattle.columns.specs.Nearest.{Units, distance, NearestDouble}
+use Rattle.columns.specs.Nearest.{Units, NearestDouble}
 
 -- ---- rounding to a whole number errs by a half at most
 

@@ -3,20 +3,19 @@ use Prim.Native.Nat.{ℕ, zero, suc, _+_, _-_, _*_, _/_, _^_, _<_, _≤_}
 use mathlib.Core.Path.{_≡_, refl, sym, _∙_, ap, subst}
 use mathlib.Core.Logic.{_⊎_, inl, inr, _↔_}
 use mathlib.Core.Bool.{Bool, true, false, _&&_, cond}
-use mathlib.Core.List.{List, [], _∷_, _++_, append-assoc}
+use mathlib.Core.List.{List, [], _∷_, _++_, append-nil}
 use native.Mathlib.Omega.{arith}
-use native.Mathlib.Nat.{div-lt-iff-lt-mul, one-le-pow}
+use native.Mathlib.Nat.{div-lt-iff-lt-mul, div-le-self, one-le-pow}
 use lib.Pow.{pow-add}
 use lib.Dec.{eqb, leb, ltb}
 use lib.ListN.{length, replicate, length-append}
-use borrow.Author.Tests.{ltb-true, lt-ltb, ne-eqb, eq-eqb, eqb-true, le-leb, leb-true}
+use borrow.Author.Tests.{lt-ltb, ne-eqb, eq-eqb, eqb-true, le-leb, leb-true}
 use Rattle.lists.specs.Scans.{every}
 use Rattle.lists.proofs.Scanning.{both, left, right}
 use Rattle.columns.specs.Fields.{isDigit, someDigits, afterSpaces, Parts, noPoint, atPoint, before, split, number, numberFrom, decimalOf, fieldOf, asWhole, wholeOf}
-use Rattle.columns.specs.Printed.{digitsOf, justified, rightJustified, lastDigits, decimalText, printedDecimal}
+use Rattle.columns.specs.Printed.{digitsOf, justified, rightJustified, lastDigits, printedDecimal}
 use Rattle.columns.specs.Claims.{Plain, Pointed, Holds12}
 use Rattle.columns.specs.declared.fields.Decimal.{Decimal}
-use Rattle.columns.specs.declared.fields.Field.{Field}
 use Rattle.columns.specs.declared.fields.Field.the-variants.{Number, Wrong}
 use Rattle.columns.specs.declared.fields.WholeField.the-variants.{Whole}
 use Rattle.columns.proofs.Digit.{digit-at-least}
@@ -40,6 +39,9 @@ kept (b ∷ bs) rest e =
   where
     no : 48 ≤ b → b ≡ 32 → ⊥
     no h q = omega arith
+
+whole-kept : (w : List ℕ) → someDigits w ≡ true → afterSpaces w ≡ w
+whole-kept w e = subst (λ z. afterSpaces z ≡ z) (append-nil w) (kept w [] e)
 
 no-point : (b : ℕ) → isDigit b ≡ true → eqb b 46 ≡ false
 no-point b e = ne-eqb b 46 (λ q. no (digit-at-least b e) q)
@@ -68,9 +70,6 @@ plain-field k w l e =
     ∙ ap (λ bs. decimalOf (split bs)) (spaces k w ∙ whole-kept w e)
     ∙ ap decimalOf (pointless w (all-of w e))
     ∙ ap (λ t. cond t (Number (record { digits = number w; places = 0 })) Wrong) e
-  where
-    whole-kept : (w : List ℕ) → someDigits w ≡ true → afterSpaces w ≡ w
-    whole-kept w e = subst (λ z. afterSpaces z ≡ z) (mathlib.Core.List.append-nil w) (kept w [] e)
 
 pub pointed-field : (k : ℕ) (w f : List ℕ) → length (replicate k 32 ++ (w ++ (46 ∷ f))) ≡ 12 → someDigits w ≡ true → someDigits f ≡ true → length f ≤ 6
     → fieldOf (replicate k 32 ++ (w ++ (46 ∷ f))) ≡ Number (record { digits = number (w ++ f); places = length f })
@@ -165,6 +164,15 @@ pub number-back : (n : ℕ) → n < 10 ^ 12 → fieldOf (rightJustified 12 n) �
 unfolding rightJustified
 number-back n h = whole-text (digitsOf n) n (few-digits 12 n (omega arith) h) (digits-spell n (omega arith))
 
+-- a number in any columns that hold it: behind the spaces stand its digits
+pub column-back : (width n : ℕ) → 0 < width → n < 10 ^ width → n < 2 ^ 64 → number (afterSpaces (rightJustified width n)) ≡ n
+unfolding rightJustified
+column-back width n p h k =
+    let s = digits-spell n (omega arith) in
+    ap (λ bs. number (afterSpaces bs)) (spaces-before width (digitsOf n) (few-digits width n p h))
+    ∙ ap number (spaces (width - length (digitsOf n)) (digitsOf n) ∙ whole-kept (digitsOf n) (some-digits (digitsOf n) n s))
+    ∙ s .is
+
 pub whole-back : (n : ℕ) → n < 10 ^ 12 → wholeOf (rightJustified 12 n) ≡ Whole n
 unfolding wholeOf
 whole-back n h = ap asWhole (number-back n h)
@@ -189,4 +197,4 @@ decimal-back digits (suc p) h k =
     rejoined p h = omega arith
 
     below : (n u : ℕ) → n < 10 ^ 11 → n / u < 10 ^ 20
-    below n u h = omega (arith, native.Mathlib.Nat.div-le-self n u)
+    below n u h = omega (arith, div-le-self n u)

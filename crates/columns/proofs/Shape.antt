@@ -1,5 +1,5 @@
 -- Reading 12 columns one by one answers what `fieldOf` says of them. Assumes nothing.
-use Prim.Native.Nat.{ℕ, suc, _+_, _*_, _-_, _<_}
+use Prim.Native.Nat.{ℕ, suc, _+_, _*_, _-_}
 use mathlib.Core.Path.{_≡_, refl, sym, _∙_, ap}
 use mathlib.Core.Bool.{Bool, true, false, _&&_, cond}
 use mathlib.Core.List.{List, [], _∷_, _++_, foldl}
@@ -10,9 +10,8 @@ use lib.Dec.{eqb, leb, ltb}
 use lib.ListN.{length}
 use borrow.Author.Tests.{lt-ltb, eqb-true, eq-eqb}
 use Rattle.lists.specs.Scans.{every}
-use Rattle.columns.specs.Fields.{isDigit, someDigits, afterSpaces, Parts, noPoint, atPoint, before, split, numberFrom, decimalOf, fieldOf}
+use Rattle.columns.specs.Fields.{isDigit, afterSpaces, Parts, noPoint, atPoint, before, split, numberFrom, decimalOf, fieldOf}
 use Rattle.columns.specs.Scanning.{scanOf, answerOf}
-use Rattle.columns.specs.declared.fields.Decimal.{Decimal}
 use Rattle.columns.specs.declared.fields.Field.{Field}
 use Rattle.columns.specs.declared.fields.Field.the-variants.{Number, Wrong}
 use Rattle.columns.specs.declared.scan.Scan.{Scan}

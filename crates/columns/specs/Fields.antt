@@ -1,7 +1,7 @@
 -- A field as document 01.9 has it: 12 columns, a decimal number right-justified after spaces, no sign, one digit or more (leading zeros allowed), then perhaps a point and 1 to 6 digits. The
 -- value is the nearest double; a point in a whole-number field is wrong. Bytes are ASCII: a space is 32, a point 46, the digits 48 to 57.
 use Prim.Native.Nat.{ℕ, _+_, _*_, _-_, _^_}
-use mathlib.Core.Bool.{Bool, true, false, _&&_, cond}
+use mathlib.Core.Bool.{Bool, false, _&&_, cond}
 use mathlib.Core.List.{List, [], _∷_, _++_}
 use lib.Dec.{eqb, leb, ltb}
 use lib.ListN.{length}

@@ -3,7 +3,6 @@ use Prim.Native.Nat.{ℕ, _+_, _*_, _-_, _<_}
 use mathlib.Core.Bool.{_&&_, cond}
 use lib.Dec.{eqb, leb, ltb}
 use Rattle.columns.specs.Fields.{isDigit}
-use Rattle.columns.specs.declared.fields.Decimal.{Decimal}
 use Rattle.columns.specs.declared.fields.Field.{Field}
 use Rattle.columns.specs.declared.fields.Field.the-variants.{Number, Wrong}
 use Rattle.columns.specs.declared.scan.Scan.{Scan}

@@ -1,12 +1,8 @@
-use Prim.Native.Nat.{_+_}
 use native.Mathlib.Omega.{arith}
 use Rattle.columns.proofs.Ways.{too-short}
 use borrow.Author.Needs.{needs}
 use Rattle.columns.proofs.fields.field_at.Statement.{statement}
 use Rattle.columns.proofs.fields.field_at.Tie as tie
-use Rattle.columns.proofs.fields.field_at.Reads as reads
-use Rattle.columns.proofs.fields.field_at.Lts as lts
-use Rattle.columns.proofs.scan.scanned.Reads as scanned-reads
 
 returns : tie.Need-returns
 returns c = let a = c .before .before .args in too-short (a .line .now) (a .at) (omega arith)

@@ -1,15 +1,9 @@
-use mathlib.Core.Path.{_≡_, sym, _∙_}
+use mathlib.Core.Path.{sym, _∙_}
 use lib.ListN.{take, drop}
-use Rattle.columns.specs.Fields.{fieldOf}
-use Rattle.columns.specs.declared.fields.Field.the-variants.{Number}
 use Rattle.columns.proofs.Ways.{real-wrong, real-is, few-digits, few-places}
 use borrow.Author.Needs.{needs}
 use Rattle.columns.proofs.fields.real_at.Statement.{statement}
 use Rattle.columns.proofs.fields.real_at.Tie as tie
-use Rattle.columns.proofs.fields.real_at.Reads as reads
-use Rattle.columns.proofs.fields.real_at.Lts as lts
-use Rattle.columns.proofs.fields.field_at.Reads as field-at-reads
-use Rattle.columns.proofs.value.nearest_double.Reads as nearest-double-reads
 
 field-at-requires : tie.Need-field-at-requires
 field-at-requires c κs = search needs

@@ -1,14 +1,9 @@
-use mathlib.Core.Path.{_≡_, sym, _∙_}
+use mathlib.Core.Path.{sym, _∙_}
 use lib.ListN.{take, drop}
-use Rattle.columns.specs.Fields.{fieldOf}
-use Rattle.columns.specs.declared.fields.Field.the-variants.{Number}
 use Rattle.columns.proofs.Ways.{whole-wrong, whole-is, whole-point}
 use borrow.Author.Needs.{needs}
 use Rattle.columns.proofs.fields.whole_at.Statement.{statement}
 use Rattle.columns.proofs.fields.whole_at.Tie as tie
-use Rattle.columns.proofs.fields.whole_at.Reads as reads
-use Rattle.columns.proofs.fields.whole_at.Lts as lts
-use Rattle.columns.proofs.fields.field_at.Reads as field-at-reads
 
 field-at-requires : tie.Need-field-at-requires
 field-at-requires c κs = search needs

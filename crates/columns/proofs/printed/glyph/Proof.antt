@@ -2,8 +2,6 @@ use borrow.Author.Needs.{needs}
 use borrow.Author.Tests.{eq-eqb, ne-eqb}
 use Rattle.columns.proofs.printed.glyph.Statement.{statement}
 use Rattle.columns.proofs.printed.glyph.Tie as tie
-use Rattle.columns.proofs.printed.glyph.Reads as reads
-use Rattle.columns.proofs.printed.glyph.Lts as lts
 
 cast-result : tie.Need-cast-result
 cast-result c = search needs

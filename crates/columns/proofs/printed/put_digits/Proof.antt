@@ -1,5 +1,5 @@
-use Prim.Native.Nat.{_+_, _-_, _/_, _<_, _≤_}
-use mathlib.Core.Path.{_≡_, refl, sym, _∙_, ap}
+use Prim.Native.Nat.{_+_, _-_, _/_, _<_}
+use mathlib.Core.Path.{_≡_, refl, _∙_, ap}
 use native.Mathlib.Omega.{arith}
 use lib.ListN.{length, length-set, set}
 use lib.Seq.{sets}
@@ -7,9 +7,6 @@ use Rattle.columns.proofs.Cells.{cells, cells-step}
 use Rattle.columns.proofs.Justified.{stored}
 use Rattle.columns.proofs.printed.put_digits.Statement.{statement}
 use Rattle.columns.proofs.printed.put_digits.Tie as tie
-use Rattle.columns.proofs.printed.put_digits.Reads as reads
-use Rattle.columns.proofs.printed.put_digits.Lts as lts
-use Rattle.columns.proofs.printed.glyph.Reads as glyph-reads
 
 abbrev Inv-loop : tie.InvT-loop
 Inv-loop out₀ at width n j₀ rest₀ out j rest = (j < width) × (length out ≡ length out₀) × (sets out at (cells j rest) ≡ sets out₀ at (cells j₀ rest₀))

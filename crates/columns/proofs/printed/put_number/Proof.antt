@@ -1,12 +1,8 @@
-use Prim.Native.Nat.{_+_}
 use native.Mathlib.Omega.{arith}
 use Rattle.columns.proofs.Justified.{no-room, no-column}
 use borrow.Author.Needs.{needs}
 use Rattle.columns.proofs.printed.put_number.Statement.{statement}
 use Rattle.columns.proofs.printed.put_number.Tie as tie
-use Rattle.columns.proofs.printed.put_number.Reads as reads
-use Rattle.columns.proofs.printed.put_number.Lts as lts
-use Rattle.columns.proofs.printed.put_digits.Reads as put-digits-reads
 
 returns : tie.Need-returns
 returns c = let a = c .before .before .args in no-room (a .out .now) (a .at) (a .width) (a .n) (omega arith)

@@ -1,10 +1,8 @@
 use borrow.Author.Needs.{needs}
-use borrow.Author.Tests.{lt-ltb, le-ltb, le-leb, lt-leb}
+use borrow.Author.Tests.{lt-ltb, le-leb, lt-leb}
 use native.Mathlib.Omega.{arith}
 use Rattle.columns.proofs.scan.answer.Statement.{statement}
 use Rattle.columns.proofs.scan.answer.Tie as tie
-use Rattle.columns.proofs.scan.answer.Reads as reads
-use Rattle.columns.proofs.scan.answer.Lts as lts
 
 enum-told : tie.Need-enum-told
 enum-told c = search needs

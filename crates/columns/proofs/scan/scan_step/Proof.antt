@@ -6,8 +6,6 @@ use Rattle.columns.specs.Scanning.{Roomy}
 use Rattle.columns.proofs.Digit.{digit-low, digit-high, digit-yes}
 use Rattle.columns.proofs.scan.scan_step.Statement.{statement}
 use Rattle.columns.proofs.scan.scan_step.Tie as tie
-use Rattle.columns.proofs.scan.scan_step.Reads as reads
-use Rattle.columns.proofs.scan.scan_step.Lts as lts
 
 enum-told : tie.Need-enum-told
 enum-told c = search needs

@@ -1,21 +1,16 @@
 use Prim.Native.Nat.{ℕ, _+_, _-_, _<_, _≤_}
-use mathlib.Core.Path.{_≡_, refl, sym, _∙_, ap, subst}
+use mathlib.Core.Path.{_≡_, refl, sym, _∙_, ap}
 use mathlib.Core.List.{List, foldl}
 use native.Mathlib.Omega.{arith}
 use lib.ListN.{length, take, drop, getD, length-drop, length-take}
 use lib.Seq.{getD-drop, length-take-le}
-use borrow.Author.Needs.{needs}
-use Rattle.columns.specs.Scanning.{scanOf, answerOf, Roomy}
+use Rattle.columns.specs.Scanning.{scanOf, answerOf}
 use Rattle.columns.specs.declared.scan.Scan.the-variants.{Spaces}
 use Rattle.lists.proofs.Folds.{fold-more}
 use Rattle.columns.proofs.Limits.{fold-roomy}
 use Rattle.columns.proofs.Shape.{shape}
 use Rattle.columns.proofs.scan.scanned.Statement.{statement}
 use Rattle.columns.proofs.scan.scanned.Tie as tie
-use Rattle.columns.proofs.scan.scanned.Reads as reads
-use Rattle.columns.proofs.scan.scanned.Lts as lts
-use Rattle.columns.proofs.scan.answer.Reads as answer-reads
-use Rattle.columns.proofs.scan.scan_step.Reads as scan-step-reads
 
 abbrev Inv-loop : tie.InvT-loop
 Inv-loop line at s₀ i₀ s i = (i ≤ 12) × (s ≡ foldl scanOf Spaces (take i (drop at line)))

@@ -8,9 +8,6 @@ use lib.Ieee.{binary64, round}
 use Rattle.columns.proofs.Divide.{in-float, divided}
 use Rattle.columns.proofs.value.nearest_double.Statement.{statement}
 use Rattle.columns.proofs.value.nearest_double.Tie as tie
-use Rattle.columns.proofs.value.nearest_double.Reads as reads
-use Rattle.columns.proofs.value.nearest_double.Lts as lts
-use Rattle.columns.proofs.value.power_of_ten.Reads as power-reads
 
 power-small : (r p : ℕ) → p ≤ 6 → r ≡ 10 ^ p → r ≤ 2 ^ 53
 power-small r p h e = omega (arith, pow-le-pow-right {n = 10} (omega arith) h)

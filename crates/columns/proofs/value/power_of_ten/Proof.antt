@@ -1,11 +1,9 @@
-use Prim.Native.Nat.{ℕ, suc, _≤_, _^_}
+use Prim.Native.Nat.{ℕ, suc, _≤_}
 use native.Mathlib.Nat.{le-antisymm}
 use mathlib.Core.Path.{_≡_}
 use native.Mathlib.Omega.{arith}
 use Rattle.columns.proofs.value.power_of_ten.Statement.{statement}
 use Rattle.columns.proofs.value.power_of_ten.Tie as tie
-use Rattle.columns.proofs.value.power_of_ten.Reads as reads
-use Rattle.columns.proofs.value.power_of_ten.Lts as lts
 
 past : {k x : ℕ} → k ≤ x → (x ≡ k → ⊥) → suc k ≤ x
 past h n = omega arith
