@@ -1,1 +1,4 @@
 pub mod Written
+pub mod Claims
+pub mod Tied
+pub mod Controls

@@ -19,14 +19,14 @@ length-columns width (n ∷ ns) =
 
 -- numbers behind what is already written: pre is written, and rest lies behind it
 pub put-all : (ns pre rest o : List ℕ) (at width : ℕ) → o ≡ pre ++ rest → length pre ≡ at → width * length ns ≤ length rest
-  → putAll o at width ns ≡ pre ++ columnsOf width ns ++ drop (width * length ns) rest
+    → putAll o at width ns ≡ pre ++ columnsOf width ns ++ drop (width * length ns) rest
 put-all [] pre rest o at width e h r = rw (mul-zero, append-nil) e
 put-all (n ∷ ns) pre rest o at width e h r =
     let s : width * suc (length ns) ≡ width + width * length ns = omega arith in
     let l : width ≤ length rest = omega arith in
     let one = put-next pre rest o (withNumber o at width n) at width n e h l refl in
     put-all ns (pre ++ rightJustified width n) (drop width rest) (withNumber o at width n) (at + width) width one
-      (length-append pre (rightJustified width n) ∙ omega (arith, length-right-justified width n)) (rw length-drop (omega arith))
+    (length-append pre (rightJustified width n) ∙ omega (arith, length-right-justified width n)) (rw length-drop (omega arith))
     ∙ ap (λ z. z ++ drop (width * length ns) (drop width rest)) (append-assoc pre (rightJustified width n) (columnsOf width ns))
     ∙ ap (λ z. pre ++ (rightJustified width n ++ columnsOf width ns) ++ z) (drop-drop (width * length ns) width rest ∙ ap (λ k. drop k rest) (sym s))
 
@@ -44,15 +44,15 @@ row-written row t u l p q =
     let f : length (take 4 row) ≡ 4 = length-take 4 row ∙ rw l in
     let g : length (drop 4 row) ≡ 4 = length-drop 4 row ∙ rw l in
     let first : t ≡ (82 ∷ []) ++ columnsOf 4 (take 4 row) ++ replicate 85 10 =
-        p ∙ put-all (take 4 row) (82 ∷ []) (replicate 101 10) (set (replicate 102 10) 0 82) 1 4 refl refl (omega arith)
-        ∙ ap (λ k. (82 ∷ []) ++ columnsOf 4 (take 4 row) ++ drop (4 * k) (replicate 101 10)) f in
+    p ∙ put-all (take 4 row) (82 ∷ []) (replicate 101 10) (set (replicate 102 10) 0 82) 1 4 refl refl (omega arith)
+    ∙ ap (λ k. (82 ∷ []) ++ columnsOf 4 (take 4 row) ++ drop (4 * k) (replicate 101 10)) f in
     q ∙ ap (putAll t 17 21) (take-all 4 (drop 4 row) (le-of-eq g))
     ∙ put-all (drop 4 row) ((82 ∷ []) ++ columnsOf 4 (take 4 row)) (replicate 85 10) t 17 21 first (ap suc (length-columns 4 (take 4 row)) ∙ omega arith) (omega arith)
     ∙ ap (λ k. (82 ∷ []) ++ columnsOf 4 (take 4 row) ++ columnsOf 21 (drop 4 row) ++ drop (21 * k) (replicate 85 10)) g
 
 -- two numbers behind a letter: r is what lies behind the letter before, and s behind the first number
 two-written : (b v w m n : ℕ) (r s t u : List ℕ) → drop v r ≡ s → v ≤ length r → w ≤ length s → t ≡ withNumber (b ∷ r) 1 v m → u ≡ withNumber t (1 + v) w n
-  → u ≡ (b ∷ []) ++ rightJustified v m ++ rightJustified w n ++ drop w s
+    → u ≡ (b ∷ []) ++ rightJustified v m ++ rightJustified w n ++ drop w s
 two-written b v w m n r s t u e k l p q =
     let first : t ≡ (b ∷ []) ++ rightJustified v m ++ s = put-next (b ∷ []) r (b ∷ r) t 1 v m refl refl k p ∙ ap (λ z. (b ∷ []) ++ rightJustified v m ++ z) e in
     put-next ((b ∷ []) ++ rightJustified v m) s t u (1 + v) w n first (ap suc (length-right-justified v m) ∙ omega arith) l q

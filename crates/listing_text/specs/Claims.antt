@@ -16,7 +16,7 @@ abbrev pub Fit : (widths numbers : List ℕ) → Type 0
 Fit [] [] = Unit {0}
 Fit [] (n ∷ ns) = ⊥
 Fit (w ∷ ws) [] = ⊥
-Fit (w ∷ ws) (n ∷ ns) = (n < 10 ^ w) × ((n < 2 ^ 64) × Fit ws ns)
+Fit (w ∷ ws) (n ∷ ns) = (n < 10 ^ w) × (n < 2 ^ 64) × Fit ws ns
 
 abbrev pub rowWidths : List ℕ
 rowWidths = replicate 4 4 ++ replicate 4 21

@@ -1,17 +1,13 @@
-use Prim.Native.Nat.{ℕ, _+_, _-_, _*_, _≤_}
+use Prim.Native.Nat.{_+_, _-_, _*_, _≤_}
 use mathlib.Core.Path.{_≡_, refl, sym, _∙_, ap}
 use native.Mathlib.Omega.{arith}
-use native.Mathlib.Numerals.{add-one}
-use lib.ListN.{length, drop, getD}
-use lib.Seq.{drop-cons, drop-length}
+use lib.ListN.{length, drop}
+use lib.Seq.{drop-length}
 use Rattle.listing_text.specs.Puts.{putAll}
 use Rattle.listing_text.proofs.Written.{put-more}
 use borrow.Author.Needs.{needs}
 use Rattle.listing_text.proofs.lines.put_columns.Statement.{statement}
 use Rattle.listing_text.proofs.lines.put_columns.Tie as tie
-use Rattle.listing_text.proofs.lines.put_columns.Reads as reads
-use Rattle.listing_text.proofs.lines.put_columns.Lts as lts
-use Rattle.columns.proofs.put_number.Reads as put-number-reads
 
 abbrev Inv-loop : tie.InvT-loop
 Inv-loop out₀ at width numbers place₀ i₀ out place i = (i ≤ length numbers) × (place ≤ at + 21 * i) × (length out ≡ length out₀) × (putAll out place width (drop i numbers) ≡ putAll out₀ at width numbers)
@@ -41,7 +37,7 @@ loop-less : tie.Need-loop-less Inv-loop μ-loop
 loop-less c = search needs
 
 loop-again : tie.Need-loop-again Inv-loop μ-loop
-loop-again c = 
+loop-again c =
     let l = c .before .before .before .before .before .before .loop in
     let a = c .before .before .before .before .before .before .before .before .before .args in
     (omega arith, omega arith, c .before .out .given ∙ l .inv .2, put-more (l .out) (a .numbers .now) (c .before .before .put-number .last .0) (l .place) (a .width) (l .i) (omega arith) (c .before .before .put-number .ensures) ∙ l .inv .3)

@@ -2,9 +2,6 @@ use Rattle.listing_text.proofs.Written.{refusal-written}
 use borrow.Author.Needs.{needs}
 use Rattle.listing_text.proofs.lines.refusal_text.Statement.{statement}
 use Rattle.listing_text.proofs.lines.refusal_text.Tie as tie
-use Rattle.listing_text.proofs.lines.refusal_text.Reads as reads
-use Rattle.listing_text.proofs.lines.refusal_text.Lts as lts
-use Rattle.columns.proofs.put_number.Reads as put-number-reads
 
 array-write-text : tie.Need-array-write-text
 array-write-text c = search needs
@@ -22,7 +19,7 @@ put-number-requires-2 : tie.Need-put-number-requires-2
 put-number-requires-2 c κs = search needs
 
 returns : tie.Need-returns
-returns c = 
+returns c =
     let a = c .before .before .before .before .before .before .args in
     refusal-written (a .number) (a .line) (c .before .before .before .before .put-number .last .0) (c .before .put-number2 .last .0) (c .before .before .before .before .put-number .ensures) (c .before .put-number2 .ensures)
 

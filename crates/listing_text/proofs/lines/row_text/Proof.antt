@@ -6,9 +6,6 @@ use Rattle.listing_text.proofs.Written.{row-written}
 use borrow.Author.Needs.{needs}
 use Rattle.listing_text.proofs.lines.row_text.Statement.{statement}
 use Rattle.listing_text.proofs.lines.row_text.Tie as tie
-use Rattle.listing_text.proofs.lines.row_text.Reads as reads
-use Rattle.listing_text.proofs.lines.row_text.Lts as lts
-use Rattle.listing_text.proofs.lines.put_columns.Reads as put-columns-reads
 
 array-write-text : tie.Need-array-write-text
 array-write-text c = search needs
