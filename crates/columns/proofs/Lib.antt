@@ -11,4 +11,4 @@ pub mod RoundTrip
 pub mod NearestValue
 pub mod Claims
 pub mod Tied
-pub mod Controls
+mod Controls

@@ -12,12 +12,13 @@ use lib.ListN.{length, replicate, length-append}
 use borrow.Author.Tests.{lt-ltb, ne-eqb, eq-eqb, eqb-true, le-leb, leb-true}
 use Rattle.lists.specs.Scans.{every}
 use Rattle.lists.proofs.Scanning.{both, left, right}
-use Rattle.columns.specs.Fields.{isDigit, someDigits, afterSpaces, Parts, noPoint, atPoint, before, split, number, numberFrom, decimalOf, fieldOf, asWhole, wholeOf}
-use Rattle.columns.specs.Printed.{digitsOf, justified, rightJustified, lastDigits, printedDecimal}
+use Rattle.columns.specs.Fields.{isDigit, someDigits, afterSpaces, Parts, noPoint, atPoint, before, split, number, numberFrom, decimalOf, fieldOf, asWhole, wholeOf, valueOf, asReal, realOf}
+use Rattle.columns.specs.Printed.{digitsOf, justified, rightJustified, lastDigits, decimalText, printedDecimal}
 use Rattle.columns.specs.Claims.{Plain, Pointed, Holds12}
 use Rattle.columns.specs.declared.fields.Decimal.{Decimal}
 use Rattle.columns.specs.declared.fields.Field.the-variants.{Number, Wrong}
 use Rattle.columns.specs.declared.fields.WholeField.the-variants.{Whole}
+use Rattle.columns.specs.declared.fields.RealField.the-variants.{Real}
 use Rattle.columns.proofs.Digit.{digit-at-least}
 use Rattle.columns.proofs.Shape.{number-append}
 use Rattle.columns.proofs.Below.{has-12, number-wrong, number-same}
@@ -198,3 +199,11 @@ decimal-back digits (suc p) h k =
 
     below : (n u : ℕ) → n < 10 ^ 11 → n / u < 10 ^ 20
     below n u h = omega (arith, div-le-self n u)
+
+pub real-back : (digits places : ℕ) → places ≤ 6 → Holds12 digits places → realOf (printedDecimal digits places) ≡ Real (valueOf (record { digits = digits; places = places }))
+unfolding realOf
+real-back digits places h k = ap asReal (decimal-back digits places h k)
+
+pub length-printed : (digits places : ℕ) → length (printedDecimal digits places) ≡ 12
+unfolding printedDecimal
+length-printed digits places = length-justified 12 (decimalText digits places)

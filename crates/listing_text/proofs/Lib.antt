@@ -1,4 +1,4 @@
 pub mod Written
 pub mod Claims
 pub mod Tied
-pub mod Controls
+mod Controls
