@@ -1,0 +1,97 @@
+-- The claims of specs/Claims.antt, proved. Assumes nothing.
+use Prim.Native.Nat.{ℕ, zero, suc, _+_, _^_, _<_}
+use mathlib.Core.Path.{_≡_, refl, _∙_, ap}
+use mathlib.Core.List.{List, [], _∷_, _++_, append-assoc, append-nil}
+use native.Mathlib.Omega.{arith}
+use lib.ListN.{length, take, drop, replicate, length-append, length-take, length-drop, take-append-drop}
+use lib.Seq.{take-at, drop-at}
+use Rattle.columns.specs.Fields.{number, afterSpaces}
+use Rattle.columns.specs.Printed.{rightJustified}
+use Rattle.columns.proofs.Justified.{length-right-justified}
+use Rattle.columns.proofs.RoundTrip.{column-back}
+use Rattle.listing_text.specs.Lines.{columnsOf, rowText, endText, refusalText}
+use Rattle.listing_text.specs.Claims.{readBack, Fit, rowWidths, LineClaims}
+use Rattle.listing_text.proofs.Written.{length-columns}
+
+-- ---- lengths
+row-length : (row : List ℕ) → length row ≡ 8 → length (rowText row) ≡ 102
+unfolding rowText
+row-length row h =
+    let f : length (take 4 row) ≡ 4 = length-take 4 row ∙ rw h in
+    let g : length (drop 4 row) ≡ 4 = length-drop 4 row ∙ rw h in
+    ap suc
+    (length-append (columnsOf 4 (take 4 row) ++ columnsOf 21 (drop 4 row)) (10 ∷ [])
+    ∙ ap (λ k. k + 1) (length-append (columnsOf 4 (take 4 row)) (columnsOf 21 (drop 4 row)))
+    ∙ omega (arith, length-columns 4 (take 4 row), length-columns 21 (drop 4 row)))
+
+two-length : (b v w m n : ℕ) → length ((b ∷ []) ++ (rightJustified v m ++ rightJustified w n) ++ (10 ∷ [])) ≡ v + w + 2
+two-length b v w m n =
+    ap suc
+    (length-append (rightJustified v m ++ rightJustified w n) (10 ∷ []) ∙ ap (λ k. k + 1) (length-append (rightJustified v m) (rightJustified w n)))
+    ∙ omega (arith, length-right-justified v m, length-right-justified w n)
+
+end-length : (cases steps : ℕ) → length (endText cases steps) ≡ 26
+unfolding endText
+end-length cases steps = two-length 69 12 12 cases steps
+
+refusal-length : (number at : ℕ) → length (refusalText number at) ≡ 18
+unfolding refusalText
+refusal-length number at = two-length 88 4 12 number at
+
+-- ---- the numbers again
+column-is : (w n : ℕ) → n < 10 ^ w → n < 2 ^ 64 → number (afterSpaces (rightJustified w n)) ≡ n
+column-is zero n h k = none (rightJustified zero n) (length-right-justified zero n) ∙ omega arith
+  where
+    none : (bs : List ℕ) → length bs ≡ 0 → number (afterSpaces bs) ≡ 0
+    none [] e = refl
+    none (b ∷ bs) e = absurd (omega arith)
+column-is (suc w) n h k = column-back (suc w) n (omega arith) h k
+
+-- the first column
+one-back : (w n : ℕ) (ws rest : List ℕ) → n < 10 ^ w → n < 2 ^ 64 → readBack (w ∷ ws) (rightJustified w n ++ rest) ≡ n ∷ readBack ws rest
+one-back w n ws rest h k =
+    ap (λ bs. number (afterSpaces bs) ∷ readBack ws (drop w (rightJustified w n ++ rest))) (take-at (rightJustified w n) rest w (length-right-justified w n))
+    ∙ ap (λ bs. number (afterSpaces (rightJustified w n)) ∷ readBack ws bs) (drop-at (rightJustified w n) rest w (length-right-justified w n))
+    ∙ ap (λ m. m ∷ readBack ws rest) (column-is w n h k)
+
+-- columns of one width, and then others
+columns-back : (k w : ℕ) (ns vs rest : List ℕ) → Fit (replicate k w) ns → readBack (replicate k w ++ vs) (columnsOf w ns ++ rest) ≡ ns ++ readBack vs rest
+columns-back zero w [] vs rest h = refl
+columns-back zero w (n ∷ ns) vs rest h = absurd h
+columns-back (suc k) w [] vs rest h = absurd h
+columns-back (suc k) w (n ∷ ns) vs rest h =
+    ap (readBack (w ∷ (replicate k w ++ vs))) (append-assoc (rightJustified w n) (columnsOf w ns) rest)
+    ∙ one-back w n (replicate k w ++ vs) (columnsOf w ns ++ rest) (h .0) (h .1)
+    ∙ ap (λ l. n ∷ l) (columns-back k w ns vs rest (h .2))
+
+fit-parts : (ws vs ns : List ℕ) → Fit (ws ++ vs) ns → Fit ws (take (length ws) ns) × Fit vs (drop (length ws) ns)
+fit-parts [] vs ns h = (tt, h)
+fit-parts (w ∷ ws) vs [] h = absurd h
+fit-parts (w ∷ ws) vs (n ∷ ns) h = let r = fit-parts ws vs ns (h .2) in ((h .0, h .1, r .0), r .1)
+
+row-back : (row : List ℕ) → Fit rowWidths row → readBack rowWidths (drop 1 (rowText row)) ≡ row
+unfolding rowText
+row-back row h =
+    let f = fit-parts (replicate 4 4) (replicate 4 21) row h in
+    ap (readBack rowWidths) (append-assoc (columnsOf 4 (take 4 row)) (columnsOf 21 (drop 4 row)) (10 ∷ []))
+    ∙ columns-back 4 4 (take 4 row) (replicate 4 21) (columnsOf 21 (drop 4 row) ++ (10 ∷ [])) (f .0)
+    ∙ ap (λ l. take 4 row ++ l) (columns-back 4 21 (drop 4 row) [] (10 ∷ []) (f .1) ∙ append-nil (drop 4 row))
+    ∙ take-append-drop 4 row
+
+two-back : (v w m n : ℕ) → Fit (v ∷ w ∷ []) (m ∷ n ∷ []) → readBack (v ∷ w ∷ []) ((rightJustified v m ++ rightJustified w n) ++ (10 ∷ [])) ≡ m ∷ n ∷ []
+two-back v w m n h =
+    ap (readBack (v ∷ w ∷ [])) (append-assoc (rightJustified v m) (rightJustified w n) (10 ∷ []))
+    ∙ one-back v m (w ∷ []) (rightJustified w n ++ (10 ∷ [])) (h .0) (h .1)
+    ∙ ap (λ l. m ∷ l) (one-back w n [] (10 ∷ []) (h .2 .0) (h .2 .1))
+
+end-back : (cases steps : ℕ) → Fit (12 ∷ 12 ∷ []) (cases ∷ steps ∷ []) → readBack (12 ∷ 12 ∷ []) (drop 1 (endText cases steps)) ≡ cases ∷ steps ∷ []
+unfolding endText
+end-back cases steps h = two-back 12 12 cases steps h
+
+refusal-back : (number at : ℕ) → Fit (4 ∷ 12 ∷ []) (number ∷ at ∷ []) → readBack (4 ∷ 12 ∷ []) (drop 1 (refusalText number at)) ≡ number ∷ at ∷ []
+unfolding refusalText
+refusal-back number at h = two-back 4 12 number at h
+
+pub line-claims : LineClaims
+line-claims =
+    record { row-length = row-length; end-length = end-length; refusal-length = refusal-length; row-back = row-back; end-back = end-back; refusal-back = refusal-back }

@@ -1,0 +1,4 @@
+pub mod Written
+pub mod Claims
+pub mod Tied
+mod Controls
