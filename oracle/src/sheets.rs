@@ -324,6 +324,19 @@ E           3           3
         assert_eq!(printed(&example()), text);
     }
 
+    /// The sheets in `examples/`, each with its listing beside it.
+    #[test]
+    fn examples() {
+        let folder = concat!(env!("CARGO_MANIFEST_DIR"), "/../examples");
+        for name in ["example", "link", "ring", "planner", "slow", "refused"] {
+            let read = |ending| std::fs::read(format!("{folder}/{name}.{ending}")).unwrap();
+            let printed = Answer::to(&read("sheet")).to_string();
+            assert!(printed.as_bytes() == read("listing"), "{name}");
+        }
+        let sheet = std::fs::read(format!("{folder}/example.sheet")).unwrap();
+        assert_eq!(sheet, example().concat().as_bytes());
+    }
+
     #[test]
     fn fields() {
         let value = |text: &str| number(text.as_bytes(), false).map(double);

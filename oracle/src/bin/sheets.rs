@@ -1,19 +1,22 @@
 //! Draws sheets at random, and compares what a program prints for them with what it must print.
 
-use oracle::draw::sheets::{sheet, Sheet};
+use oracle::draw::sheets::{every_edit, is_quick, sheet, Sheet};
 use oracle::draw::Random;
 use oracle::sheets::{self, Answer, Refused, WIDTH};
 use std::collections::BTreeMap;
-use std::io::{Read, Write};
+use std::io::{self, Read, Write};
+use std::ops::Range;
 use std::path::Path;
 use std::process::{exit, ChildStdin, Command, Stdio};
 use std::{env, fs, thread};
 
 const USAGE: &str = "\
-sheets draw SEED COUNT FOLDER [damaged]                         writes sheets, and beside each what must be printed for it
-sheets compare PROGRAM SEED COUNT [damaged] [bytes | pieces]    gives sheets to PROGRAM, at once, by bytes or in random pieces
+sheets draw SEED COUNT FOLDER [damaged]           writes sheets, and beside each what must be printed for it
+sheets compare PROGRAM SEED COUNT [OPTIONS..]     gives drawn sheets to PROGRAM; damaged ones with the option damaged
+sheets edits PROGRAM FILE [OPTIONS..]             gives it the sheet in FILE with each byte replaced, inserted and deleted
 
-The sheets of SEED and COUNT have the seeds from SEED on, each its own.";
+The sheets of SEED and COUNT have the seeds from SEED on, each its own. Options bytes and pieces: PROGRAM is given a sheet byte by byte, or
+in random pieces, and not at once.";
 
 /// How many differences are shown.
 const SHOWN: u64 = 3;
@@ -37,33 +40,47 @@ fn main() {
 
 /// Does what the words ask for, and returns how many answers differ.
 fn run(words: &[String]) -> Option<u64> {
-    let [what, a, b, c, options @ ..] = words else {
-        return None;
+    let is = |option: &str| words.iter().any(|word| word == option);
+    let (damaged, bytes, pieces) = (is("damaged"), is("bytes"), is("pieces"));
+    let feeding = match (bytes, pieces) {
+        (true, _) => Feeding::Bytes,
+        (_, true) => Feeding::Pieces,
+        _ => Feeding::Whole,
     };
-    let mut damaged = false;
-    let mut feeding = Feeding::Whole;
-    for option in options {
-        match option.as_str() {
-            "damaged" => damaged = true,
-            "bytes" => feeding = Feeding::Bytes,
-            "pieces" => feeding = Feeding::Pieces,
-            _ => return None,
-        }
-    }
-    let seeds = |seed: &str, count: &str| {
-        let seed: u64 = seed.parse().ok()?;
-        Some(seed..seed.checked_add(count.parse().ok()?)?)
-    };
-    match what.as_str() {
-        "draw" => {
-            for seed in seeds(a, b)? {
-                write(seed, damaged, Path::new(c));
+    let words = words.iter().map(String::as_str);
+    let words: Vec<&str> = words.filter(|word| !OPTIONS.contains(word)).collect();
+    match words[..] {
+        ["draw", seed, count, folder] => {
+            for seed in seeds(seed, count)? {
+                write(seed, damaged, Path::new(folder));
             }
             Some(0)
         }
-        "compare" => Some(compare(a, seeds(b, c)?, damaged, feeding)),
+        ["compare", program, seed, count] => {
+            let drawn = |seed| sheet(damaged, &mut Random::new(seed));
+            let sheets = seeds(seed, count)?.map(|seed| (format!("seed {seed}"), drawn(seed)));
+            Some(compare(program, sheets, feeding))
+        }
+        ["edits", program, file] => {
+            let sheet = fs::read(file).unwrap_or_else(|e| fail(file, e));
+            let numbered = (1u64..).zip(every_edit(&sheet));
+            let sheets = numbered.map(|(n, sheet)| (format!("edit {n}"), sheet));
+            Some(compare(program, sheets, feeding))
+        }
         _ => None,
     }
+}
+
+const OPTIONS: [&str; 3] = ["damaged", "bytes", "pieces"];
+
+fn seeds(seed: &str, count: &str) -> Option<Range<u64>> {
+    let seed: u64 = seed.parse().ok()?;
+    Some(seed..seed.checked_add(count.parse().ok()?)?)
+}
+
+fn fail(what: &str, error: io::Error) -> ! {
+    eprintln!("{what}: {error}");
+    exit(2)
 }
 
 fn write(seed: u64, damaged: bool, folder: &Path) {
@@ -71,20 +88,16 @@ fn write(seed: u64, damaged: bool, folder: &Path) {
     let listing = Answer::to(&bytes).to_string();
     for (ending, content) in [("sheet", &bytes[..]), ("listing", listing.as_bytes())] {
         let path = folder.join(format!("{seed}.{ending}"));
-        fs::write(&path, content).unwrap_or_else(|e| {
-            eprintln!("{}: {e}", path.display());
-            exit(2)
-        });
+        fs::write(&path, content).unwrap_or_else(|e| fail(&path.to_string_lossy(), e));
     }
 }
 
-fn compare(program: &str, seeds: std::ops::Range<u64>, damaged: bool, feeding: Feeding) -> u64 {
-    println!("seeds {} to {}", seeds.start, seeds.end.saturating_sub(1));
+/// Gives sheets to a program, and counts those for which it prints something else than it must.
+fn compare(program: &str, sheets: impl Iterator<Item = (String, Sheet)>, feeding: Feeding) -> u64 {
     let mut met = Met::default();
+    let mut random = Random::new(0);
     let [mut compared, mut different] = [0, 0];
-    for seed in seeds {
-        let mut random = Random::new(seed);
-        let sheet = sheet(damaged, &mut random);
+    for (name, sheet) in sheets {
         let answer = Answer::to(&sheet.bytes);
         met.add(&sheet, &answer);
         compared += 1;
@@ -92,7 +105,7 @@ fn compare(program: &str, seeds: std::ops::Range<u64>, damaged: bool, feeding: F
         if given != answer.to_string().as_bytes() {
             different += 1;
             if different <= SHOWN {
-                println!("\nseed {seed} {:?}, cut down:", sheet.damages);
+                println!("\n{name} {:?}, cut down:", sheet.damages);
                 show(program, &sheet.bytes, feeding);
             }
         }
@@ -108,10 +121,7 @@ fn printed(program: &str, sheet: &[u8], feeding: Feeding, random: &mut Random) -
         .stdin(Stdio::piped())
         .stdout(Stdio::piped())
         .spawn()
-        .unwrap_or_else(|e| {
-            eprintln!("{program}: {e}");
-            exit(2)
-        });
+        .unwrap_or_else(|e| fail(program, e));
     let input = child.stdin.take().expect("standard input is a pipe");
     let mut output = child.stdout.take().expect("standard output is a pipe");
     let mut text = Vec::new();
@@ -158,8 +168,10 @@ fn show(program: &str, sheet: &[u8], feeding: Feeding) {
         (right, printed(program, sheet, feeding, &mut random))
     };
     let small = cut_down(sheet, |sheet| {
-        let (right, given) = answers(sheet);
-        right != given
+        is_quick(sheet) && {
+            let (right, given) = answers(sheet);
+            right != given
+        }
     });
     let (right, given) = answers(&small);
     let texts = [

@@ -3,6 +3,8 @@
 
 mod damages;
 
+pub use damages::every_edit;
+
 use super::grids::times_at_most_steps;
 use super::runs::{put_breakers, set_moments};
 use super::sweeps::{parts, set_breakers_beside_a_case, sweep_plan};
@@ -41,7 +43,8 @@ pub fn sheet(damaged: bool, random: &mut Random) -> Sheet {
     }
 }
 
-fn is_quick(sheet: &[u8]) -> bool {
+/// Whether the sheet is refused, or its sweep takes little time.
+pub fn is_quick(sheet: &[u8]) -> bool {
     sheets::read(sheet).map_or(true, |sweep| {
         let parts = sweep.grid.n_stations * sweep.grid.n_cables;
         sweep.cases.len() as u64 * sweep.steps() * parts <= MOST_WORK

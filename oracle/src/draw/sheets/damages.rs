@@ -1,6 +1,6 @@
 //! Damages to a sheet: to bytes, fields, lines and the whole.
 
-use super::Random;
+use super::{Random, Sheet};
 use crate::grids::CABLES;
 use crate::sheets::{FORMS, WIDTH};
 
@@ -9,11 +9,17 @@ type Lines = Vec<Vec<u8>>;
 /// Does nothing where there is nothing to be damaged.
 type Damage = fn(&mut Lines, &mut Random) -> Option<()>;
 
-pub const DAMAGES: [(&str, Damage); 22] = [
-    ("digit changed", change_digit),
+const EDITS: [(&str, Damage); 3] = [
     ("byte replaced", replace_bytes),
     ("byte inserted", insert_bytes),
     ("byte deleted", delete_byte),
+];
+
+pub const DAMAGES: [(&str, Damage); 22] = [
+    EDITS[0],
+    EDITS[1],
+    EDITS[2],
+    ("digit changed", change_digit),
     ("two bytes swapped", swap_bytes),
     ("field rewritten", rewrite_field),
     ("line cut", cut_line),
@@ -35,7 +41,7 @@ pub const DAMAGES: [(&str, Damage); 22] = [
 ];
 
 /// How many of the last ones are done to one in 16 sheets alone, since they leave little of it.
-const WHOLE: usize = 3;
+const WHOLE: usize = 2;
 
 /// Does one to three damages, and names them.
 pub fn damage(lines: &mut Lines, random: &mut Random) -> Vec<&'static str> {
@@ -52,6 +58,26 @@ pub fn damage(lines: &mut Lines, random: &mut Random) -> Vec<&'static str> {
             name
         })
         .collect()
+}
+
+/// Every edit of one place of a sheet: each of `BYTES` over what stands there, before it, and nothing in its place.
+pub fn every_edit(sheet: &[u8]) -> impl Iterator<Item = Sheet> + '_ {
+    (0..=sheet.len()).flat_map(move |at| {
+        let put = move |over: usize, put: &[u8], name| {
+            let mut bytes = sheet.to_vec();
+            let end = (at + over).min(bytes.len());
+            bytes.splice(at..end, put.iter().copied());
+            Sheet {
+                bytes,
+                damages: vec![name],
+            }
+        };
+        let [(replaced, _), (inserted, _), (deleted, _)] = EDITS;
+        BYTES
+            .into_iter()
+            .flat_map(move |b| [put(b.len(), b, replaced), put(0, b, inserted)])
+            .chain([put(1, b"", deleted)])
+    })
 }
 
 /// Of every class: controls, neighbours of the digits, what numbers have elsewhere, letters, more than one byte in UTF-8, no UTF-8.
