@@ -213,7 +213,7 @@ fn grid(lines: &[Line]) -> Grid {
 type Part<T> = fn(&mut IntoIter<u64>) -> Option<T>;
 
 fn taken<T>(part: Part<T>, fields: &[u64]) -> Option<T> {
-    part(&mut fields.to_vec().into_iter())
+    part(&mut Vec::from(fields).into_iter())
 }
 
 fn parts<T>(lines: &[Line], form: usize, part: Part<T>) -> Vec<T> {
@@ -374,8 +374,8 @@ E           3           3
     fn forms_and_order() {
         let [t, o] = [0, 1].map(|i| example()[i].clone());
         refused_as(&[], 13, 1);
-        refused_as(&[t.clone()], 13, 2);
-        refused_as(&[o.clone()], 13, 1);
+        refused_as(&example()[..1], 13, 2);
+        refused_as(&example()[1..2], 13, 1);
         refused_as(&[t.clone(), t.clone()], 13, 2);
         refused_as(&example()[1..], 13, 1);
         refused_as(&[t.clone(), o.clone()], 1, 0);

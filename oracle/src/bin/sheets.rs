@@ -58,7 +58,9 @@ fn run(words: &[String]) -> Option<u64> {
         }
         ["compare", program, seed, count] => {
             let drawn = |seed| sheet(damaged, &mut Random::new(seed));
-            let sheets = seeds(seed, count)?.map(|seed| (format!("seed {seed}"), drawn(seed)));
+            let seeds = seeds(seed, count)?;
+            println!("seeds from {} to before {}", seeds.start, seeds.end);
+            let sheets = seeds.map(|seed| (format!("seed {seed}"), drawn(seed)));
             Some(compare(program, sheets, feeding))
         }
         ["edits", program, file] => {

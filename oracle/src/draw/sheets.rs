@@ -64,7 +64,7 @@ fn plan(random: &mut Random) -> Plan {
     keep_to_columns(&mut plan, random);
     set_breakers_beside_a_case(&mut plan, random);
     keep_to_columns(&mut plan, random);
-    let aims = random.pick(&[0, 0, 0, 0, 1, 1, 2, 3]);
+    let aims = random.pick(&[0, 0, 0, 1, 1, 2, 2, 3]);
     for _ in 0..aims {
         let rule = 1 + random.below(10);
         aim_at(rule, &mut plan, random);
@@ -104,7 +104,7 @@ fn fitting(x: f64, places: usize) -> String {
 
 /// Breaks a rule, or sets what it looks at to an end of what it accepts.
 fn aim_at(rule: u64, plan: &mut Plan, random: &mut Random) {
-    let special = random.below(4) == 0;
+    let special = random.below(3) == 0;
     match rule {
         1 => plan.stations.clear(),
         2 => plan.cables.clear(),
@@ -274,7 +274,7 @@ mod tests {
     fn damaged_sheets_of_every_kind() {
         let (rules, damages) = met(true);
         assert!(rules.into_iter().eq((0..=10).chain([12, 13])));
-        assert_eq!(damages.len(), damages::DAMAGES.len());
+        assert_eq!(damages.len(), damages::KINDS);
     }
 
     #[test]

@@ -2,26 +2,26 @@
 
 use super::{Random, Sheet};
 use crate::grids::CABLES;
-use crate::sheets::{FORMS, WIDTH};
+use crate::sheets::WIDTH;
 
 /// Each with its line feed, if it has one.
 type Lines = Vec<Vec<u8>>;
 /// Does nothing where there is nothing to be damaged.
 type Damage = fn(&mut Lines, &mut Random) -> Option<()>;
 
-const EDITS: [(&str, Damage); 3] = [
+type Named = (&'static str, Damage);
+
+/// To bytes and fields.
+const SMALL: [Named; 6] = [
     ("byte replaced", replace_bytes),
     ("byte inserted", insert_bytes),
     ("byte deleted", delete_byte),
-];
-
-pub const DAMAGES: [(&str, Damage); 22] = [
-    EDITS[0],
-    EDITS[1],
-    EDITS[2],
     ("digit changed", change_digit),
     ("two bytes swapped", swap_bytes),
     ("field rewritten", rewrite_field),
+];
+
+const OF_LINES: [Named; 14] = [
     ("line cut", cut_line),
     ("line lengthened", lengthen_line),
     ("letter changed", change_letter),
@@ -36,18 +36,20 @@ pub const DAMAGES: [(&str, Damage); 22] = [
     ("no last line feed", cut_last_feed),
     ("carriage returns", add_returns),
     ("cut short", cut_short),
-    ("nothing", clear),
-    ("noise", make_noise),
 ];
 
-/// How many of the last ones are done to one in 16 sheets alone, since they leave little of it.
-const WHOLE: usize = 2;
+/// After which nothing is left of a sheet.
+const OF_ALL: [Named; 2] = [("nothing", clear), ("noise", make_noise)];
+
+#[cfg(test)]
+pub const KINDS: usize = SMALL.len() + OF_LINES.len() + OF_ALL.len();
 
 /// Does one to three damages, and names them.
 pub fn damage(lines: &mut Lines, random: &mut Random) -> Vec<&'static str> {
-    let choice = match random.below(16) {
-        0 => &DAMAGES[DAMAGES.len() - WHOLE..],
-        _ => &DAMAGES[..DAMAGES.len() - WHOLE],
+    let choice: &[Named] = match random.below(16) {
+        0 => &OF_ALL,
+        1..=8 => &SMALL,
+        _ => &OF_LINES,
     };
     let times = random.pick(&[1, 1, 1, 2, 3]);
     (0..times)
@@ -72,7 +74,7 @@ pub fn every_edit(sheet: &[u8]) -> impl Iterator<Item = Sheet> + '_ {
                 damages: vec![name],
             }
         };
-        let [(replaced, _), (inserted, _), (deleted, _)] = EDITS;
+        let [(replaced, _), (inserted, _), (deleted, _), ..] = SMALL;
         BYTES
             .into_iter()
             .flat_map(move |b| [put(b.len(), b, replaced), put(0, b, inserted)])
@@ -251,10 +253,10 @@ fn lengthen_line(lines: &mut Lines, random: &mut Random) -> Option<()> {
     Some(())
 }
 
+/// To one of the others, to a small one, or to what none begins with.
 fn change_letter(lines: &mut Lines, random: &mut Random) -> Option<()> {
     let at = some_line(lines, random)?;
-    let letter = FORMS[some(FORMS.len(), random)?].letter;
-    *lines[at].first_mut()? = letter;
+    *lines[at].first_mut()? = random.pick(b"TOSCBTOSCBtoscbXZ D\0");
     Some(())
 }
 
