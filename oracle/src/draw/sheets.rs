@@ -12,7 +12,7 @@ use super::Random;
 use crate::grids::{BREAKERS, CABLES, STATIONS};
 use crate::jobs::SWEEP;
 use crate::plan::{Accepted, Plan, MECHANICAL, MMC};
-use crate::rules::{Range, LAST_NUMBER, LAST_TENTH, RATED_MW};
+use crate::rules::{self, Range, LAST_NUMBER, LAST_TENTH, RATED_MW};
 use crate::sheets::{self, Form, FORMS, PLACES, WIDTH};
 
 /// A sheet, and what was done to it.
@@ -64,10 +64,14 @@ fn plan(random: &mut Random) -> Plan {
     keep_to_columns(&mut plan, random);
     set_breakers_beside_a_case(&mut plan, random);
     keep_to_columns(&mut plan, random);
-    let aims = random.pick(&[0, 0, 0, 1, 1, 2, 2, 3]);
-    for _ in 0..aims {
-        let rule = 1 + random.below(10);
-        aim_at(rule, &mut plan, random);
+    // Often the next rule too, since the order decides then.
+    let rules = rules::checked(SWEEP);
+    let some = |random: &mut Random| random.below(rules.len() as u64) as usize;
+    let mut at = some(random);
+    for _ in 0..random.pick(&[0, 0, 0, 1, 1, 2, 2, 3]) {
+        aim_at(rules[at % rules.len()], &mut plan, random);
+        let any = some(random);
+        at = random.pick(&[at + 1, any]);
     }
     plan
 }
