@@ -6,6 +6,7 @@ mod flows;
 mod grids;
 mod points;
 mod runs;
+pub mod sheets;
 mod steps;
 mod sweeps;
 

@@ -99,7 +99,7 @@ pub fn station(input: &mut impl Iterator<Item = u64>) -> Option<ConverterStation
     })
 }
 
-fn cable(input: &mut impl Iterator<Item = u64>) -> Option<DcCable> {
+pub fn cable(input: &mut impl Iterator<Item = u64>) -> Option<DcCable> {
     Some(DcCable {
         id: input.next()? as usize,
         from_station: input.next()? as usize,
@@ -111,7 +111,7 @@ fn cable(input: &mut impl Iterator<Item = u64>) -> Option<DcCable> {
     })
 }
 
-fn breaker(input: &mut impl Iterator<Item = u64>) -> Option<DcBreaker> {
+pub fn breaker(input: &mut impl Iterator<Item = u64>) -> Option<DcBreaker> {
     let id = input.next()? as usize;
     let station_id = input.next()? as usize;
     let kind = input.next()?;

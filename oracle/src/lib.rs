@@ -8,6 +8,7 @@ pub mod numbers;
 pub mod plan;
 pub mod rules;
 pub mod sample;
+pub mod sheets;
 pub mod stand_in;
 pub mod tally;
 

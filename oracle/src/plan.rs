@@ -353,7 +353,8 @@ fn breaker_fields(i: usize, breaker: &[u64; 7], fields: &mut Vec<Field>) {
             add(3, "hybrid opening", time);
             add(4, "commutation", time);
         }
-        kind => panic!("a breaker of kind {kind}"),
+        // Of another kind, which a sheet may name, no time is known.
+        _ => {}
     }
     add(
         5,

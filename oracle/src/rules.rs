@@ -128,7 +128,7 @@ fn first(job: u64, applies: impl Fn(u64) -> bool) -> u64 {
 }
 
 /// Whether a rule on grids alone applies.
-fn applies(rule: u64, g: &Grid) -> bool {
+pub(crate) fn applies(rule: u64, g: &Grid) -> bool {
     match rule {
         1 => rule_1(g),
         2 => rule_2(g),
@@ -195,7 +195,7 @@ fn outside(numbers: &[usize], doubles: &[(f64, Range)]) -> bool {
         || doubles.iter().any(|&(x, range)| !range.has(x))
 }
 
-fn station_outside(s: &ConverterStation) -> bool {
+pub(crate) fn station_outside(s: &ConverterStation) -> bool {
     let submodules = match s.topology {
         ConverterTopology::Mmc { n_submodules } => n_submodules,
         _ => 0,
@@ -215,7 +215,7 @@ fn station_outside(s: &ConverterStation) -> bool {
     )
 }
 
-fn cable_outside(c: &DcCable) -> bool {
+pub(crate) fn cable_outside(c: &DcCable) -> bool {
     outside(
         &[c.id, c.from_station, c.to_station],
         &[
@@ -227,7 +227,7 @@ fn cable_outside(c: &DcCable) -> bool {
     )
 }
 
-fn breaker_outside(b: &DcBreaker) -> bool {
+pub(crate) fn breaker_outside(b: &DcBreaker) -> bool {
     let own = match b.breaker_type {
         DcBreakerType::Mechanical { opening_time_ms } => vec![(opening_time_ms, BREAKER_TIME)],
         DcBreakerType::SolidState {
@@ -268,7 +268,7 @@ fn rule_9_of_fault(f: &DcFaultEvent) -> bool {
 }
 
 /// A field of a sweep order outside its range; for the tenths 0 ≤ low ≤ high ≤ 10.
-fn rule_9_of_order(o: &SweepOrder) -> bool {
+pub(crate) fn rule_9_of_order(o: &SweepOrder) -> bool {
     outside(
         &[],
         &[

@@ -216,7 +216,7 @@ pub fn times(random: &mut Random) -> [u64; 2] {
 }
 
 /// Times with 1,000,000 steps, one less or one more, or far more.
-fn times_at_most_steps(random: &mut Random) -> [u64; 2] {
+pub fn times_at_most_steps(random: &mut Random) -> [u64; 2] {
     let dt_us = random.pick(&[0.0, 0.1, 0.3, 0.5, 1.0, 1.0, 7.0, 10.0, 33.3, 99.0]);
     let steps = MOST_STEPS + random.below(3) as f64 - 1.0;
     let exact = steps * (f64::max(dt_us, 0.1) / 1000.0);

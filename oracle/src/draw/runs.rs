@@ -142,6 +142,10 @@ pub fn set_breakers(plan: &mut Plan, random: &mut Random) {
         0 => BREAKERS,
         _ => random.pick(&[0, 1, 1, 2, 3]),
     };
+    put_breakers(plan, breakers, random);
+}
+
+pub fn put_breakers(plan: &mut Plan, breakers: u64, random: &mut Random) {
     plan.breakers = (0..breakers).map(|_| grids::breaker(random)).collect();
     plan.counts[2] = breakers;
     for field in plan.fields().iter().filter(|field| field.rule == 8) {

@@ -16,22 +16,27 @@ use crate::plan::Plan;
 use crate::rules::{Range, BREAKING_CURRENT, ENERGY, LAST_NUMBER, LAST_TENTH};
 
 pub fn job(random: &mut Random) -> Drawn {
-    let mut plan = sweep_plan(SWEEP, random);
-    let sweep = read_sweep(&plan);
-    let case = random.pick(&sweep.cases);
-    let long = sweep.steps() > 5000;
-    if long || random.below(4) == 0 {
-        clear_at_detection(&mut plan, case, random);
-    }
-    set_limits(&mut plan, case, random);
+    let mut plan = any_plan(SWEEP, random);
+    set_breakers_beside_a_case(&mut plan, random);
     let sweep = read_sweep(&plan);
     plan.rest = calls(&sweep, random);
     drawn(plan)
 }
 
+/// Sets what the breakers bear beside what one of the cases asks of them, and at times the clearing at its detection.
+pub fn set_breakers_beside_a_case(plan: &mut Plan, random: &mut Random) {
+    let sweep = read_sweep(plan);
+    let case = random.pick(&sweep.cases);
+    let long = sweep.steps() > 5000;
+    if long || random.below(4) == 0 {
+        clear_at_detection(plan, case, random);
+    }
+    set_limits(plan, case, random);
+}
+
 /// A kept sweep on a grid that is accepted, with a case number around the number of cases and steps around those of a case.
 pub fn kept(random: &mut Random) -> Drawn {
-    let mut plan = sweep_plan(KEPT_SWEEP, random);
+    let mut plan = any_plan(KEPT_SWEEP, random);
     plan.rest = rest_of_kept(&plan, random);
     drawn(plan)
 }
@@ -69,10 +74,16 @@ pub fn few_steps(random: &mut Random) -> Vec<u64> {
     calls
 }
 
-/// A sweep without breakers' limits and calls.
-fn sweep_plan(job: u64, random: &mut Random) -> Plan {
+/// A sweep of any length and size that is drawn.
+fn any_plan(job: u64, random: &mut Random) -> Plan {
     let long = random.below(32) == 0;
-    let mut plan = converging(job, random);
+    let parts = parts(random);
+    sweep_plan(job, parts, long, random)
+}
+
+/// A sweep without breakers' limits and calls, on that many stations and at most that many cables.
+pub fn sweep_plan(job: u64, parts: [u64; 2], long: bool, random: &mut Random) -> Plan {
+    let mut plan = converging(job, parts, random);
     set_breakers(&mut plan, random);
     let steps = match random.below(16) {
         0..=3 => 1 + random.below(4),
@@ -98,7 +109,7 @@ fn sweep_plan(job: u64, random: &mut Random) -> Plan {
 }
 
 /// How many stations and cables.
-fn parts(random: &mut Random) -> [u64; 2] {
+pub fn parts(random: &mut Random) -> [u64; 2] {
     match random.below(32) {
         0 => [STATIONS, CABLES],
         1..=3 => [4 + random.below(6), 1 + random.below(6)],
@@ -110,8 +121,7 @@ fn parts(random: &mut Random) -> [u64; 2] {
 }
 
 /// A grid whose flow converges; of one in sixteen it does what it does.
-fn converging(job: u64, random: &mut Random) -> Plan {
-    let [stations, cables] = parts(random);
+fn converging(job: u64, [stations, cables]: [u64; 2], random: &mut Random) -> Plan {
     let any = random.below(16) == 0;
     let mut plan = lightened(stations, cables, job, random);
     for _ in 0..8 {
