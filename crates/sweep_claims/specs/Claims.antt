@@ -21,9 +21,10 @@ use Rattle.runs.specs.Blank.{blankState}
 use Rattle.fault_cases.specs.Cases.{casesOf, faultOf}
 use Rattle.fault_cases.specs.Reasons.{rowLength}
 use Rattle.fault_cases.specs.Listing.{stateAt, listed, listing}
 use Rattle.fault_sweep.specs.declared.sweep.Sweep.{Sweep}
-use Rattle.fault_sweep.specs.KeptSweep.{sweepAfter, stateOfStep, sweepRefused, startedSweep}
+use Rattle.fault_sweep.specs.KeptSweep.{sweepAfter, stateOfStep}
+use Rattle.sweep_start.specs.Start.{sweepRefused, startedSweep}
 use Rattle.fault_sweep.specs.Advance.{sweepBroken, sweepStepper}
 
 -- ---- every list of calls of a sweep that is started
 

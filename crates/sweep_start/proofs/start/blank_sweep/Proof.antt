@@ -1,7 +1,7 @@
 -- `blank_sweep` meets its contract. Assumes nothing.
 use borrow.Author.Needs.{needs}
-use Rattle.fault_sweep.proofs.start.blank_sweep.Statement.{statement}
-use Rattle.fault_sweep.proofs.start.blank_sweep.Tie as tie
+use Rattle.sweep_start.proofs.start.blank_sweep.Statement.{statement}
+use Rattle.sweep_start.proofs.start.blank_sweep.Tie as tie
 
 blank-grid-requires : tie.Need-blank-grid-requires
 blank-grid-requires c κs = search needs

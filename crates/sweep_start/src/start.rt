@@ -1,10 +1,10 @@
 // The start of a sweep: refused, or the kept sweep after 0 steps.
 ghost use mathlib.Core.Path.{_≡_};
 ghost use Rattle.rules.specs.Studies.{numberOf};
-ghost use Rattle.fault_sweep.specs.KeptSweep.{blankSweep, sweepRefused, startedSweep};
-use crate::sweep::Sweep;
+ghost use Rattle.sweep_start.specs.Start.{blankSweep, sweepRefused, startedSweep};
 use case_steps::first_open_case;
 use case_steps::no_open_case;
+use fault_sweep::Sweep;
 use grid::DcSwitchingSimulator;
 use grid::SweepOrder;
 use power_flow::no_solution;

@@ -19,8 +19,8 @@ use Rattle.fault_cases.specs.Cases.{tenthsOf, casesOf, faultOf}
 use Rattle.fault_cases.specs.Listing.{someDetected, clearingCurrent}
 use Rattle.fault_cases.proofs.Numbers.{tenths-few}
 use Rattle.case_steps.specs.OpenCases.{startCase}
 use Rattle.fault_sweep.specs.KeptSweep.{caseAfter, keptAt, sweepAfter}
-use Rattle.fault_sweep.proofs.Accepted.{some-cable, flow-accepted}
+use Rattle.sweep_start.proofs.Accepted.{some-cable, flow-accepted}
 
 module _ (g : DcSwitchingSimulator) (o : SweepOrder) (z : sweepRefusal g o ≡ 0) where
   pub flow-is : flowAnswer g ≡ solutionOf g

@@ -33,11 +33,12 @@ use Rattle.fault_cases.specs.Listing.{someDetected, clearingCurrent, outcomeAft
 use Rattle.case_steps.specs.declared.open_case.OpenCase.{OpenCase}
 use Rattle.case_steps.specs.OpenCases.{startCase, outcomeIn, caseStep, caseFrom}
 use Rattle.case_steps.proofs.Claims.{from-suc, case-claims}
 use Rattle.fault_sweep.specs.declared.sweep.Sweep.{Sweep}
-use Rattle.fault_sweep.specs.KeptSweep.{caseAfter, keptAt, sweepAfter, sweepRefused, blankSweep, startedSweep}
+use Rattle.fault_sweep.specs.KeptSweep.{caseAfter, keptAt, sweepAfter}
+use Rattle.sweep_start.specs.Start.{sweepRefused, blankSweep, startedSweep}
 use Rattle.fault_sweep.specs.Advance.{sweepBroken, casesFor, sweepWith, sweepStepper}
-use Rattle.fault_sweep.specs.Claims.{Calls, steps, closed, rowsOf, OfCall, Demand3, SweepClaims}
+use Rattle.sweep_claims.specs.Claims.{Calls, steps, closed, rowsOf, OfCall, Demand3, SweepClaims}
 use Rattle.fault_sweep.proofs.Shown.{swept}
 
 -- ---- lists of calls
 

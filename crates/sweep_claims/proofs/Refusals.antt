@@ -19,10 +19,11 @@ use Rattle.portions.proofs.Refusals.{refused-if}
 use Rattle.runs.specs.Blank.{blankState}
 use Rattle.fault_cases.specs.Cases.{casesOf, faultOf}
 use Rattle.fault_cases.specs.Listing.{stateAt}
 use Rattle.fault_sweep.specs.declared.sweep.Sweep.{Sweep}
-use Rattle.fault_sweep.specs.KeptSweep.{sweepAfter, stateOfStep, sweepRefused, blankSweep, startedSweep}
+use Rattle.fault_sweep.specs.KeptSweep.{sweepAfter, stateOfStep}
+use Rattle.sweep_start.specs.Start.{sweepRefused, blankSweep, startedSweep}
 use Rattle.fault_sweep.specs.Advance.{sweepBroken, sweepStepper}
-use Rattle.fault_sweep.specs.Claims.{StartClaims, StateClaims, SweepBroken, SweepRefusalClaims}
+use Rattle.sweep_claims.specs.Claims.{StartClaims, StateClaims, SweepBroken, SweepRefusalClaims}
 
 -- ---- the start
 

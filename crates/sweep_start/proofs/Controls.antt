@@ -4,7 +4,7 @@ use Rattle.float64.specs.Constants.{nought}
 use Rattle.power_flow.specs.Flow.{blankSolution}
 use Rattle.runs.specs.Blank.{blankGrid}
 use Rattle.case_steps.specs.OpenCases.{noCase}
-use Rattle.fault_sweep.specs.KeptSweep.{blankSweep}
+use Rattle.sweep_start.specs.Start.{blankSweep}
 
 -- beside a refusal stands a sweep in which all is zero and false
 blank-is

@@ -5,14 +5,14 @@ use Rattle.rules.specs.Studies.{numberOf, sweepRefusal, startRefusal}
 use Rattle.rules.proofs.Claims.{refusal-claims}
 use Rattle.power_flow.specs.declared.flow.DcGridSolution.{DcGridSolution}
 use Rattle.power_flow.specs.Flow.{solutionOf}
-use Rattle.fault_sweep.specs.KeptSweep.{startedSweep}
-use Rattle.fault_sweep.proofs.Fresh.{flow-is, fresh-is}
+use Rattle.sweep_start.specs.Start.{startedSweep}
+use Rattle.sweep_start.proofs.Fresh.{flow-is, fresh-is}
 use borrow.Author.Tests.{ne-eqb}
 use lib.ListN.{length}
 use mathlib.Core.Bool.{true, false, not}
 use mathlib.Core.Path.{_≡_, sym, ap, _∙_}
-use Rattle.fault_sweep.proofs.start.start_sweep.Statement.{statement}
-use Rattle.fault_sweep.proofs.start.start_sweep.Tie as tie
+use Rattle.sweep_start.proofs.start.start_sweep.Statement.{statement}
+use Rattle.sweep_start.proofs.start.start_sweep.Tie as tie
 
 long : (c : tie.Start) → length (c .args .g .cables) ≡ 64
 long c = search (needs, unmapped)
