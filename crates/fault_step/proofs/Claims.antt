@@ -13,7 +13,7 @@ use Rattle.grid.specs.declared.parts.DcFaultEvent.{DcFaultEvent}
 use Rattle.grid.specs.declared.simulator.DcSwitchingSimulator.{DcSwitchingSimulator}
 use Rattle.timing.specs.Steps.{timeStepMs, timeOfStep}
 use Rattle.network.specs.Network.{networkOf, drainOf}
-use Rattle.transient.proofs.Claims.{network-claims}
+use Rattle.step_claims.proofs.Claims.{network-claims}
 use Rattle.run_start.specs.Start.{rated, ratedOf}
 use Rattle.fault_circuit.specs.Circuit.{circuitAt}
 use Rattle.fault_circuit.proofs.Claims.{current-claims}

@@ -17,9 +17,9 @@ use Rattle.converter.specs.Point.{blankPoint}
 use Rattle.conductances.specs.Conductances.{stationCount, conductancesOf}
 use Rattle.flow_voltages.specs.Voltages.{voltagesOf}
 use Rattle.flow_voltages.proofs.Claims.{pass-claims, counted, first-pass}
 use Rattle.power_flow.specs.Flow.{cableCount, solutionAt, solutionOf, blankSolution, flowAnswer}
 use Rattle.power_flow.specs.Solution.{operatingPoint, pointOf}
-use Rattle.power_flow.specs.Claims.{AnswerStops, AnswerSpent, AnswerClaims}
+use Rattle.flow_claims.specs.Claims.{AnswerStops, AnswerSpent, AnswerClaims}
 
 accepted : (g : DcSwitchingSimulator) → flowRefusal g ≡ 0 → flowAnswer g ≡ solutionOf g
 unfolding flowAnswer
