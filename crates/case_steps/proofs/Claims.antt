@@ -11,11 +11,11 @@ use Rattle.state_derivatives.specs.declared.state.DcTransientState.{DcTransient
 use Rattle.network.specs.Network.{networkOf}
 use Rattle.detection.specs.Detection.{detected, detectedBy}
 use Rattle.detection.proofs.Claims.{detection-claims}
-use Rattle.fault_step.specs.declared.variables.FaultVariables.{FaultVariables}
-use Rattle.fault_step.specs.Fault.{faultBody, faultAfter}
-use Rattle.fault_step.specs.Plans.{planOf}
-use Rattle.fault_step.proofs.Claims.{plan-claims}
-use Rattle.fault_cases.specs.Listing.{stateAt, counts, detectedIn, someDetected, clearingCurrent, outcomeAfter}
+use Rattle.fault_plan.specs.declared.variables.FaultVariables.{FaultVariables}
+use Rattle.fault_plan.specs.Fault.{faultBody, faultAfter}
+use Rattle.fault_plan.specs.Plans.{planOf}
+use Rattle.fault_step_claims.proofs.Claims.{plan-claims}
+use Rattle.case_listing.specs.Listing.{stateAt, counts, detectedIn, someDetected, clearingCurrent, outcomeAfter}
 use Rattle.case_steps.specs.declared.open_case.OpenCase.{OpenCase}
 use Rattle.case_steps.specs.OpenCases.{startCase, outcomeIn, countsAt, stepped, caseStep, caseFrom}
 use Rattle.case_steps.specs.Plans.{planCaseStep, planCaseFrom}

@@ -4,9 +4,9 @@ use mathlib.Core.Path.{_≡_}
 use mathlib.Core.Bool.{true}
 use Rattle.grid.specs.declared.parts.DcFaultEvent.{DcFaultEvent}
 use Rattle.grid.specs.declared.simulator.DcSwitchingSimulator.{DcSwitchingSimulator}
-use Rattle.fault_step.specs.Fault.{faultAfter}
-use Rattle.fault_step.specs.Plans.{planOf}
-use Rattle.fault_cases.specs.Listing.{stateAt, someDetected, clearingCurrent, outcomeAfter}
+use Rattle.fault_plan.specs.Fault.{faultAfter}
+use Rattle.fault_plan.specs.Plans.{planOf}
+use Rattle.case_listing.specs.Listing.{stateAt, someDetected, clearingCurrent, outcomeAfter}
 use Rattle.case_steps.specs.declared.open_case.OpenCase.{OpenCase}
 use Rattle.case_steps.specs.OpenCases.{startCase, outcomeIn, caseFrom}
 use Rattle.case_steps.specs.Plans.{planCaseFrom}

@@ -9,9 +9,9 @@ use Rattle.grid.specs.declared.simulator.DcSwitchingSimulator.{DcSwitchingSimul
 use Rattle.timing.specs.Steps.{stepsOf}
 use Rattle.timing.proofs.Claims.{step-claims}
 use Rattle.rules.specs.Studies.{faultRefusal, first, broken, tooManyParts}
-use Rattle.rules.proofs.Claims.{accepted-claims}
+use Rattle.rule_claims.proofs.Claims.{accepted-claims}
 use Rattle.portions.specs.Calls.{Chain}
-use Rattle.fault_step.specs.Fault.{faultBody, faultAfter}
+use Rattle.fault_plan.specs.Fault.{faultBody, faultAfter}
 use Rattle.runs.specs.Runs.{Calls, InPortions}
 use Rattle.runs.proofs.Portions.{in-portions}
 use Rattle.fault_runs.specs.FaultRuns.{faultRunRefused, faultStepper, faultRunAfter, startedFaultRun, blankFaultRun, faultFigures, faultResults, figuresSoFar}

@@ -23,8 +23,8 @@ use Rattle.portions.specs.declared.Stop.the-variants.{Finished, Spent, Full, Re
 use Rattle.portions.specs.Stopping.{joined, advance, answerOf, memoryOf}
 use Rattle.portions.specs.Calls.{Called, Chain, handed}
 use Rattle.state_derivatives.specs.declared.state.DcTransientState.{DcTransientState}
-use Rattle.fault_step.specs.declared.variables.FaultVariables.{FaultVariables}
-use Rattle.fault_step.specs.Fault.{beforeInception, body, faultBody, beforeLoop, faultAfter}
+use Rattle.fault_plan.specs.declared.variables.FaultVariables.{FaultVariables}
+use Rattle.fault_plan.specs.Fault.{beforeInception, body, faultBody, beforeLoop, faultAfter}
 use Rattle.records.specs.Records.{recordWith}
 use Rattle.runs.specs.declared.result.DcTransientResult.{DcTransientResult}
 use Rattle.runs.specs.Runs.{statesAfter, InPortions}

@@ -10,7 +10,7 @@ use Rattle.timing.specs.Steps.{stepsOf}
 use Rattle.rules.specs.Studies.{faultRefusal}
 use Rattle.portions.specs.Calls.{Called, Made, Chain}
 use Rattle.portions.specs.Refusals.{RefusedIf}
-use Rattle.fault_step.specs.Fault.{faultAfter}
+use Rattle.fault_plan.specs.Fault.{faultAfter}
 use Rattle.runs.specs.Runs.{Run, Calls, InPortions}
 use Rattle.fault_runs.specs.declared.fault_run.FaultRun.{FaultRun}
 use Rattle.fault_runs.specs.FaultRuns.{faultStepper, faultRunRefused, faultRunAfter, startedFaultRun, faultFigures, faultResults, figuresSoFar}

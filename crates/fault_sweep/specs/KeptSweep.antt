@@ -8,10 +8,10 @@ use Rattle.grid.specs.declared.simulator.DcSwitchingSimulator.{DcSwitchingSimul
 use Rattle.timing.specs.Steps.{stepsOf}
 use Rattle.state_derivatives.specs.declared.state.DcTransientState.{DcTransientState}
 use Rattle.power_flow.specs.declared.flow.DcGridSolution.{DcGridSolution}
-use Rattle.fault_step.specs.Fault.{faultAfter}
+use Rattle.fault_plan.specs.Fault.{faultAfter}
 use Rattle.runs.specs.Blank.{blankState}
 use Rattle.fault_cases.specs.Cases.{casesOf, faultOf}
-use Rattle.fault_cases.specs.Listing.{someDetected, clearingCurrent}
+use Rattle.case_listing.specs.Listing.{someDetected, clearingCurrent}
 use Rattle.case_steps.specs.declared.open_case.OpenCase.{OpenCase}
 use Rattle.case_steps.specs.OpenCases.{noCase}
 use Rattle.fault_sweep.specs.declared.sweep.Sweep.{Sweep}

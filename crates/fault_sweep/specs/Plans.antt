@@ -8,8 +8,8 @@ use Rattle.grid.specs.declared.simulator.DcSwitchingSimulator.{DcSwitchingSimul
 use Rattle.network.specs.Network.{networkOf}
 use Rattle.run_start.specs.Start.{ratedOf}
 use Rattle.power_flow.specs.declared.flow.DcGridSolution.{DcGridSolution}
-use Rattle.fault_step.specs.declared.plan.FaultPlan.{FaultPlan}
-use Rattle.fault_step.specs.Plans.{constantsOf}
+use Rattle.fault_plan.specs.declared.plan.FaultPlan.{FaultPlan}
+use Rattle.fault_plan.specs.Plans.{constantsOf}
 use Rattle.fault_cases.specs.Cases.{faultOf}
 use Rattle.fault_sweep.specs.declared.advance.Common.{Common}
 

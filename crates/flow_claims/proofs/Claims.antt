@@ -12,7 +12,7 @@ use Rattle.float64.specs.Constants.{nought}
 use Rattle.float64.specs.Arithmetic.{of}
 use Rattle.grid.specs.declared.simulator.DcSwitchingSimulator.{DcSwitchingSimulator}
 use Rattle.rules.specs.Studies.{flowRefusal}
-use Rattle.rules.proofs.Sizes.{size-claims}
+use Rattle.rule_claims.proofs.Sizes.{size-claims}
 use Rattle.converter.specs.Point.{blankPoint}
 use Rattle.conductances.specs.Conductances.{stationCount, conductancesOf}
 use Rattle.flow_voltages.specs.Voltages.{voltagesOf}

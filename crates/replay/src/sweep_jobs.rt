@@ -11,7 +11,7 @@ use crate::run_jobs;
 use crate::run_jobs::MOST;
 use crate::states;
 use case_steps::OpenCase;
-use fault_step::FaultVariables;
+use fault_plan::FaultVariables;
 use fault_sweep::Sweep;
 use grid::SweepOrder;
 

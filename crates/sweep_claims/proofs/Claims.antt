@@ -15,7 +15,7 @@ use Rattle.grid.specs.declared.parts.SweepOrder.{SweepOrder}
 use Rattle.grid.specs.declared.simulator.DcSwitchingSimulator.{DcSwitchingSimulator}
 use Rattle.timing.specs.Steps.{stepsOf}
 use Rattle.rules.specs.Studies.{sweepRefusal, startRefusal, first, broken, tooManyParts}
-use Rattle.rules.proofs.Claims.{refusal-claims, accepted-claims}
+use Rattle.rule_claims.proofs.Claims.{refusal-claims, accepted-claims}
 use Rattle.power_flow.specs.declared.flow.DcGridSolution.{DcGridSolution}
 use Rattle.power_flow.specs.Flow.{solutionOf}
 use Rattle.portions.specs.Stopping.{Stepper, joined}
@@ -26,10 +26,10 @@ use Rattle.portions.specs.Cases.{toList, isSome, keptAfter}
 use Rattle.portions.specs.Demand3 as whole
 use Rattle.portions.proofs.Demand3.{demand3-claims}
 use Rattle.portions.proofs.Course.{chain-and}
-use Rattle.fault_step.specs.Fault.{faultAfter}
+use Rattle.fault_plan.specs.Fault.{faultAfter}
 use Rattle.fault_cases.specs.declared.reasons.CaseOutcome.{CaseOutcome}
 use Rattle.fault_cases.specs.Cases.{casesOf, faultOf}
-use Rattle.fault_cases.specs.Listing.{someDetected, clearingCurrent, outcomeAfter, rowFor, caseRow, listed, listing}
+use Rattle.case_listing.specs.Listing.{someDetected, clearingCurrent, outcomeAfter, rowFor, caseRow, listed, listing}
 use Rattle.case_steps.specs.declared.open_case.OpenCase.{OpenCase}
 use Rattle.case_steps.specs.OpenCases.{startCase, outcomeIn, caseStep, caseFrom}
 use Rattle.case_steps.proofs.Claims.{from-suc, case-claims}

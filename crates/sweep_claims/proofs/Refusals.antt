@@ -12,13 +12,13 @@ use Rattle.grid.specs.declared.parts.SweepOrder.{SweepOrder}
 use Rattle.grid.specs.declared.simulator.DcSwitchingSimulator.{DcSwitchingSimulator}
 use Rattle.timing.specs.Steps.{stepsOf}
 use Rattle.rules.specs.Studies.{sweepRefusal, first, broken, tooManyParts}
-use Rattle.rules.proofs.Claims.{refusal-claims}
+use Rattle.rule_claims.proofs.Claims.{refusal-claims}
 use Rattle.power_flow.specs.declared.flow.DcGridSolution.{DcGridSolution}
 use Rattle.power_flow.specs.Flow.{solutionOf}
 use Rattle.portions.proofs.Refusals.{refused-if}
 use Rattle.runs.specs.Blank.{blankState}
 use Rattle.fault_cases.specs.Cases.{casesOf, faultOf}
-use Rattle.fault_cases.specs.Listing.{stateAt}
+use Rattle.case_listing.specs.Listing.{stateAt}
 use Rattle.fault_sweep.specs.declared.sweep.Sweep.{Sweep}
 use Rattle.fault_sweep.specs.KeptSweep.{sweepAfter, stateOfStep}
 use Rattle.sweep_start.specs.Start.{sweepRefused, blankSweep, startedSweep}

@@ -9,7 +9,7 @@ use Rattle.grid.specs.declared.parts.SweepOrder.{SweepOrder}
 use Rattle.grid.specs.declared.simulator.DcSwitchingSimulator.{DcSwitchingSimulator}
 use Rattle.timing.specs.Steps.{stepsOf}
 use Rattle.rules.specs.Studies.{order, sweepRefusal, startBroken}
-use Rattle.rules.specs.Claims.{Decides}
+use Rattle.rule_claims.specs.Claims.{Decides}
 use Rattle.power_flow.specs.declared.flow.DcGridSolution.{DcGridSolution}
 use Rattle.power_flow.specs.Flow.{solutionOf}
 use Rattle.portions.specs.declared.Stop.the-variants.{Finished, Refused}
@@ -20,7 +20,7 @@ use Rattle.portions.specs.Refusals.{RefusedIf}
 use Rattle.runs.specs.Blank.{blankState}
 use Rattle.fault_cases.specs.Cases.{casesOf, faultOf}
 use Rattle.fault_cases.specs.Reasons.{rowLength}
-use Rattle.fault_cases.specs.Listing.{stateAt, listed, listing}
+use Rattle.case_listing.specs.Listing.{stateAt, listed, listing}
 use Rattle.fault_sweep.specs.declared.sweep.Sweep.{Sweep}
 use Rattle.fault_sweep.specs.KeptSweep.{sweepAfter, stateOfStep}
 use Rattle.sweep_start.specs.Start.{sweepRefused, startedSweep}

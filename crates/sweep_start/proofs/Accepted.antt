@@ -9,7 +9,7 @@ use Rattle.grid.specs.declared.parts.SweepOrder.{SweepOrder}
 use Rattle.grid.specs.declared.simulator.DcSwitchingSimulator.{DcSwitchingSimulator}
 use Rattle.part_checks.specs.PartChecks.{orderOk}
 use Rattle.rules.specs.Studies.{broken, noStation, noCable, tooManyParts, stationOutside, cableOutside, breakerOutside, faultOrder, flowRefusal, sweepRefusal}
-use Rattle.rules.proofs.Claims.{refusal-claims}
+use Rattle.rule_claims.proofs.Claims.{refusal-claims}
 
 module _ (g : DcSwitchingSimulator) (o : SweepOrder) (z : sweepRefusal g o ≡ 0) where
   unbroken : (i : ℕ) → not (broken g (not (orderOk o)) (getD faultOrder i 0)) ≡ true

@@ -11,12 +11,12 @@ use Rattle.grid.specs.declared.parts.SweepOrder.{SweepOrder}
 use Rattle.grid.specs.declared.simulator.DcSwitchingSimulator.{DcSwitchingSimulator}
 use Rattle.timing.specs.Steps.{stepsOf}
 use Rattle.rules.specs.Studies.{noCable, sweepRefusal, flowRefusal}
-use Rattle.rules.proofs.Claims.{accepted-claims}
+use Rattle.rule_claims.proofs.Claims.{accepted-claims}
 use Rattle.power_flow.specs.declared.flow.DcGridSolution.{DcGridSolution}
 use Rattle.power_flow.specs.Flow.{solutionOf, flowAnswer}
-use Rattle.fault_step.specs.Fault.{faultAfter}
+use Rattle.fault_plan.specs.Fault.{faultAfter}
 use Rattle.fault_cases.specs.Cases.{tenthsOf, casesOf, faultOf}
-use Rattle.fault_cases.specs.Listing.{someDetected, clearingCurrent}
+use Rattle.case_listing.specs.Listing.{someDetected, clearingCurrent}
 use Rattle.fault_cases.proofs.Numbers.{tenths-few}
 use Rattle.case_steps.specs.OpenCases.{startCase}
 use Rattle.fault_sweep.specs.KeptSweep.{caseAfter, keptAt, sweepAfter}

@@ -1,6 +1,6 @@
 -- `simulate_fault` meets its contract. Assumes nothing.
 use Rattle.fault_runs.specs.FaultRuns.{startedFaultRun}
-use Rattle.fault_step.specs.Fault.{faultAfter}
+use Rattle.fault_plan.specs.Fault.{faultAfter}
 use Rattle.rules.specs.Studies.{faultRefusal}
 use borrow.Author.Tests.{eq-eqb, ne-eqb}
 use mathlib.Core.Path.{sym, _∙_}

@@ -1,7 +1,7 @@
 -- `put_case` meets its contract. Assumes nothing.
 use borrow.Author.Needs.{needs}
 use Rattle.fault_cases.specs.Cases.{placeOf}
-use Rattle.fault_cases.specs.Listing.{rowFor}
+use Rattle.case_listing.specs.Listing.{rowFor}
 use Rattle.case_steps.specs.OpenCases.{outcomeIn}
 use Rattle.fault_sweep.specs.Plans.{lossIn}
 use Rattle.fault_sweep.proofs.Rows.{row-count, row-numbers}

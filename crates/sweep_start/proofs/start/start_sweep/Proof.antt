@@ -2,7 +2,7 @@
 use borrow.Author.Needs.{needs}
 use Rattle.lists.proofs.Scanning.{unmapped}
 use Rattle.rules.specs.Studies.{numberOf, sweepRefusal, startRefusal}
-use Rattle.rules.proofs.Claims.{refusal-claims}
+use Rattle.rule_claims.proofs.Claims.{refusal-claims}
 use Rattle.power_flow.specs.declared.flow.DcGridSolution.{DcGridSolution}
 use Rattle.power_flow.specs.Flow.{solutionOf}
 use Rattle.sweep_start.specs.Start.{startedSweep}
