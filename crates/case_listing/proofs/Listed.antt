@@ -27,7 +27,7 @@ use Rattle.transient.specs.Rk4.{ahead, blended, rk4, raised, newState, stepBy}
 use Rattle.detection.specs.Detection.{detected}
 use Rattle.fault_circuit.specs.Parameters.{parametersAt}
 use Rattle.fault_circuit.specs.Circuit.{responseOf, underdampedResponse, overdampedResponse, typeFactor, circuitAt}
-use Rattle.fault_circuit.specs.Current.{amperesBy, currentBy, decayedBy}
+use Rattle.fault_current.specs.Current.{amperesBy, currentBy, decayedBy}
 use Rattle.fault_plan.specs.Fault.{whileFaulted, afterClearing, beforeInception, body, faultBody, beforeLoop, faultAfter}
 use Rattle.power_flow.specs.declared.flow.DcGridSolution.{DcGridSolution}
 use Rattle.run_start.proofs.Samples.{double, station, cable, breaker, two}

@@ -19,7 +19,7 @@ use Rattle.transient.specs.OfGrid.{gridStep}
 use Rattle.run_start.specs.Start.{timeAt, rated}
 use Rattle.fault_circuit.specs.Parameters.{parametersOf}
 use Rattle.fault_circuit.specs.Circuit.{circuitOf}
-use Rattle.fault_circuit.specs.Current.{rlcCurrent, decayedOf}
+use Rattle.fault_current.specs.Current.{rlcCurrent, decayedOf}
 use Rattle.fault_plan.specs.declared.variables.FaultVariables.{FaultVariables}
 use Rattle.recovery.specs.Constants.{recoveredPart}
 use Rattle.recovery.specs.Recovery.{recovering}

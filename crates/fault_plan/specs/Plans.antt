@@ -10,7 +10,7 @@ use Rattle.network.specs.Network.{networkOf, drainOf, stationCount}
 use Rattle.transient.specs.Rk4.{rk4Step}
 use Rattle.run_start.specs.Start.{ratedOf}
 use Rattle.fault_circuit.specs.Circuit.{circuitOf}
-use Rattle.fault_circuit.specs.Current.{currentOf, decayedOf}
+use Rattle.fault_current.specs.Current.{currentOf, decayedOf}
 use Rattle.fault_plan.specs.declared.variables.FaultVariables.{FaultVariables}
 use Rattle.fault_plan.specs.declared.plan.FaultConstants.{FaultConstants}
 use Rattle.fault_plan.specs.declared.plan.FaultPlan.{FaultPlan}

@@ -7,7 +7,7 @@ use Rattle.lists.specs.Scans.{each}
 use Rattle.float64.specs.Arithmetic.{of}
 use Rattle.network.specs.Network.{stationCount}
 use Rattle.run_start.specs.Start.{timeAt}
-use Rattle.fault_circuit.specs.Current.{decayedOf}
+use Rattle.fault_current.specs.Current.{decayedOf}
 use Rattle.fault_plan.specs.declared.variables.FaultVariables.{FaultVariables}
 use Rattle.fault_plan.specs.declared.plan.FaultConstants.{FaultConstants}
 use Rattle.fault_plan.specs.declared.plan.FaultPlan.{FaultPlan}

@@ -1,13 +1,13 @@
 // Steps of a fault run that change no voltage, cable current or breaker: before inception, and after clearing once the voltages rest.
 ghost use mathlib.Core.Path.{_≡_};
 ghost use mathlib.Core.Bool.{cond};
-ghost use Rattle.fault_circuit.specs.Current.{decayedOf};
+ghost use Rattle.fault_current.specs.Current.{decayedOf};
 ghost use Rattle.fault_plan.specs.Quiet.{waitsBy, restsBy, quietStep};
 use crate::plan::FaultConstants;
 use crate::plan::FaultPlan;
 use crate::variables::FaultVariables;
 use fault_circuit::FaultCircuit;
-use fault_circuit::decayed_current_ka;
+use fault_current::decayed_current_ka;
 use recovery::all_recovered;
 use recovery::none_below;
 use run_start::step_time_ms;

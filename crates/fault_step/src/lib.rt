@@ -2,4 +2,4 @@
 mod fault;
 
 pub use fault::fault_step;
-pub use fault_circuit::fault_current_ka;
+pub use fault_current::fault_current_ka;

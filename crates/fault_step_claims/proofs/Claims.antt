@@ -16,7 +16,7 @@ use Rattle.network.specs.Network.{networkOf, drainOf}
 use Rattle.step_claims.proofs.Claims.{network-claims}
 use Rattle.run_start.specs.Start.{rated, ratedOf}
 use Rattle.fault_circuit.specs.Circuit.{circuitAt}
-use Rattle.fault_circuit.proofs.Claims.{current-claims}
+use Rattle.fault_current.proofs.Claims.{current-claims}
 use Rattle.fault_plan.specs.declared.variables.FaultVariables.{FaultVariables}
 use Rattle.fault_plan.specs.Fault.{Setting, settingOf, faultBody, body, activeAt, whileFaulted, afterClearing, beforeInception}
 use Rattle.fault_plan.specs.Plans.{planOf, constantsOf, planSetting, planStep}

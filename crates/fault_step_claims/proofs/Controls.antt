@@ -31,7 +31,7 @@ use Rattle.state_derivatives.specs.Derivatives.{derivatives}
 use Rattle.transient.specs.Rk4.{ahead, blended, rk4, raised, newState, stepBy}
 use Rattle.fault_circuit.specs.Parameters.{parametersAt}
 use Rattle.fault_circuit.specs.Circuit.{responseOf, underdampedResponse, overdampedResponse, typeFactor, circuitAt}
-use Rattle.fault_circuit.specs.Current.{amperesBy, currentBy, decayedBy}
+use Rattle.fault_current.specs.Current.{amperesBy, currentBy, decayedBy}
 use Rattle.fault_plan.specs.declared.variables.FaultVariables.{FaultVariables}
 use Rattle.fault_plan.specs.Fault.{Setting, diDt, dissipated, activeAt, allRecovered, whileFaulted, afterClearing, beforeInception, body, settingOf, faultBody, beforeLoop, faultAfter}
 use Rattle.run_start.proofs.Samples.{double, state, stepped, station, cable, breaker, two}
