@@ -4,6 +4,4 @@ mod fault_run;
 pub use fault_plan::FaultVariables;
 pub use fault_run::AdvancedFaultRun;
 pub use fault_run::FaultRun;
-pub use fault_run::StartedFaultRun;
-pub use fault_run::simulate_fault;
 pub use runs::DcTransientResult;

@@ -1,4 +1,3 @@
 pub mod Shown
 mod SweepLoop
-mod Rows
 pub mod Tied

@@ -34,13 +34,13 @@ use Rattle.case_listing.specs.Listing.{rowFor}
 use Rattle.case_steps.specs.declared.open_case.OpenCase.{OpenCase}
 use Rattle.case_steps.specs.OpenCases.{startCase, noCase, outcomeIn, caseFrom}
 use Rattle.case_steps.specs.Plans.{planCaseFrom}
-use Rattle.case_steps.proofs.Claims.{case-claims}
-use Rattle.fault_sweep.specs.declared.advance.Common.{Common}
+use Rattle.case_claims.proofs.Claims.{case-claims}
+use Rattle.sweep_cases.specs.declared.cases.Common.{Common}
 use Rattle.fault_sweep.specs.declared.sweep.Sweep.{Sweep}
 use Rattle.fault_sweep.specs.declared.sweep.AdvancedSweep.{AdvancedSweep}
 use Rattle.fault_sweep.specs.KeptSweep.{keptAt}
 use Rattle.fault_sweep.specs.Advance.{sweepBroken, casesFor, sweepWith, sweepStepper, advancedSweep}
-use Rattle.fault_sweep.specs.Plans.{commonOf, planFor}
+use Rattle.sweep_cases.specs.Plans.{commonOf, planFor}
 use Rattle.fault_sweep.proofs.Shown.{row-eight, swept, from-is}
 
 one-at-most : (x : Option (List ℕ)) → length (toList x) ≤ 1

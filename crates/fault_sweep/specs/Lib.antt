@@ -1,3 +1,2 @@
 pub mod KeptSweep
 pub mod Advance
-pub mod Plans

@@ -16,7 +16,7 @@ use Rattle.rule_claims.proofs.Sizes.{size-claims}
 use Rattle.converter.specs.Point.{blankPoint}
 use Rattle.conductances.specs.Conductances.{stationCount, conductancesOf}
 use Rattle.flow_voltages.specs.Voltages.{voltagesOf}
-use Rattle.flow_voltages.proofs.Claims.{pass-claims, counted, first-pass}
+use Rattle.pass_claims.proofs.Claims.{pass-claims, counted, first-pass}
 use Rattle.power_flow.specs.Flow.{cableCount, solutionAt, solutionOf, blankSolution, flowAnswer}
 use Rattle.power_flow.specs.Solution.{operatingPoint, pointOf}
 use Rattle.flow_claims.specs.Claims.{AnswerStops, AnswerSpent, AnswerClaims}

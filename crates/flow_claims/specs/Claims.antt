@@ -10,7 +10,7 @@ use Rattle.grid.specs.declared.simulator.DcSwitchingSimulator.{DcSwitchingSimul
 use Rattle.rules.specs.Studies.{flowRefusal}
 use Rattle.converter.specs.Point.{blankPoint}
 use Rattle.flow_voltages.specs.Constants.{tolerance}
-use Rattle.flow_voltages.specs.Claims.{voltagesAfter, mismatchAfter}
+use Rattle.pass_claims.specs.Claims.{voltagesAfter, mismatchAfter}
 use Rattle.power_flow.specs.declared.flow.DcGridSolution.{DcGridSolution}
 use Rattle.power_flow.specs.Flow.{blankSolution, flowAnswer}
 

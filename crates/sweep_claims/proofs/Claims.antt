@@ -32,7 +32,7 @@ use Rattle.fault_cases.specs.Cases.{casesOf, faultOf}
 use Rattle.case_listing.specs.Listing.{someDetected, clearingCurrent, outcomeAfter, rowFor, caseRow, listed, listing}
 use Rattle.case_steps.specs.declared.open_case.OpenCase.{OpenCase}
 use Rattle.case_steps.specs.OpenCases.{startCase, outcomeIn, caseStep, caseFrom}
-use Rattle.case_steps.proofs.Claims.{from-suc, case-claims}
+use Rattle.case_claims.proofs.Claims.{from-suc, case-claims}
 use Rattle.fault_sweep.specs.declared.sweep.Sweep.{Sweep}
 use Rattle.fault_sweep.specs.KeptSweep.{caseAfter, keptAt, sweepAfter}
 use Rattle.sweep_start.specs.Start.{sweepRefused, blankSweep, startedSweep}
