@@ -1,4 +1,3 @@
 mod Counted
 mod Controls
-pub mod Claims
 pub mod Tied

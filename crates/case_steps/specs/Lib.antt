@@ -1,3 +1,2 @@
 pub mod OpenCases
 pub mod Plans
-pub mod Claims

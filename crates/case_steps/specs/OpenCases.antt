@@ -7,8 +7,8 @@ use Rattle.float64.specs.Constants.{nought}
 use Rattle.grid.specs.declared.parts.DcFaultEvent.{DcFaultEvent}
 use Rattle.grid.specs.declared.simulator.DcSwitchingSimulator.{DcSwitchingSimulator}
 use Rattle.detection.specs.Detection.{detected}
-use Rattle.fault_step.specs.declared.variables.FaultVariables.{FaultVariables}
-use Rattle.fault_step.specs.Fault.{faultBody, beforeLoop}
+use Rattle.fault_plan.specs.declared.variables.FaultVariables.{FaultVariables}
+use Rattle.fault_plan.specs.Fault.{faultBody, beforeLoop}
 use Rattle.runs.specs.Blank.{blankState}
 use Rattle.fault_cases.specs.declared.reasons.CaseOutcome.{CaseOutcome}
 use Rattle.case_steps.specs.declared.open_case.OpenCase.{OpenCase}

@@ -2,9 +2,9 @@
 use Prim.Native.Nat.{ℕ, zero, suc}
 use mathlib.Core.Bool.{Bool}
 use Rattle.detection.specs.Detection.{detectedBy}
-use Rattle.fault_step.specs.declared.variables.FaultVariables.{FaultVariables}
-use Rattle.fault_step.specs.declared.plan.FaultPlan.{FaultPlan}
-use Rattle.fault_step.specs.Plans.{planStep}
+use Rattle.fault_plan.specs.declared.variables.FaultVariables.{FaultVariables}
+use Rattle.fault_plan.specs.declared.plan.FaultPlan.{FaultPlan}
+use Rattle.fault_plan.specs.Plans.{planStep}
 use Rattle.case_steps.specs.declared.open_case.OpenCase.{OpenCase}
 use Rattle.case_steps.specs.OpenCases.{stepped}
 

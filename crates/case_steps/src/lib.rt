@@ -2,7 +2,7 @@
 mod open_case;
 mod steps;
 
-pub use fault_step::FaultVariables;
+pub use fault_plan::FaultVariables;
 pub use open_case::OpenCase;
 pub use open_case::case_outcome;
 pub use open_case::first_open_case;

@@ -2,8 +2,8 @@
 ghost use mathlib.Core.Path.{_≡_};
 ghost use Rattle.case_steps.specs.OpenCases.{startCase, noCase, outcomeIn};
 use fault_cases::CaseOutcome;
-use fault_step::FaultVariables;
-use fault_step::first_fault_variables;
+use fault_plan::FaultVariables;
+use fault_plan::first_fault_variables;
 use grid::DcSwitchingSimulator;
 use runs::blank_state;
 

@@ -6,8 +6,8 @@ ghost use Rattle.case_steps.specs.OpenCases.{clearingAfter};
 ghost use Rattle.case_steps.specs.Plans.{planDetected, planCaseStep, planCaseFrom};
 use crate::open_case::OpenCase;
 use detection::detects;
-use fault_step::FaultPlan;
-use fault_step::FaultVariables;
+use fault_plan::FaultPlan;
+use fault_plan::FaultVariables;
 use fault_step::fault_step;
 
 // The steps from the number `first` up to `end`, which is not made.

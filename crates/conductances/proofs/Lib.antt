@@ -1,4 +1,3 @@
 pub mod Entries
 pub mod Samples
-pub mod Claims
 pub mod Tied

@@ -1,14 +1,10 @@
--- The claims speak of what the code returns: what a caller learns from a contract in src/, as Rattle reads its clauses, gives the claim of the result, and nothing is asked of the caller.
--- Assumes nothing.
-use Prim.Native.Nat.{ℕ, _<_}
-use mathlib.Core.Path.{_≡_, _∙_}
+-- What a caller learns from the contracts in src/, as Rattle reads their clauses, is the definition of the result, and nothing is asked of the caller. Assumes nothing.
+use mathlib.Core.Path.{_≡_}
 use contract.Lifetimes.{Lfts}
 use borrow.Fn.World.{ArgsD, ResD}
 use borrow.Fn.Kinds.{endedOf}
 use denote.Triple.Clauses.{AtExit}
-use Rattle.grid.specs.Simulator.{cablesOf}
-use Rattle.conductances.specs.Conductances.{entry, cell, stationCount}
-use Rattle.conductances.proofs.Claims.{matrix-claims}
+use Rattle.conductances.specs.Conductances.{conductancesOf}
 use Rattle.conductances.proofs.conductances.conductances_of as matrix-contract
 use Rattle.conductances.proofs.conductances.conductances_of.Kinds as matrix-kinds
 use Rattle.conductances.proofs.conductances.conductances_of.Reads as matrix-reads
@@ -17,6 +13,5 @@ module _ (κs : Lfts 0) (a : ArgsD matrix-contract.signature κs) (r : ResD matr
   pub matrix-any : matrix-reads.Asked κs a
   matrix-any = tt
 
-  module _ (h : matrix-reads.Learnt κs a r e) (i j : ℕ) (li : i < 32) (lj : j < 32) where
-    pub matrix-placed : cell r i j ≡ entry (stationCount (a .0)) (cablesOf (a .0)) i j
-    matrix-placed = rw h (matrix-claims .placed (stationCount (a .0)) i j (cablesOf (a .0)) li lj)
+  pub matrix-is : matrix-reads.Learnt κs a r e → r ≡ conductancesOf (a .0)
+  matrix-is h = h

@@ -1,3 +1,2 @@
 pub mod Conductances
 pub mod Symmetric
-pub mod Claims

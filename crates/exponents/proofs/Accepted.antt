@@ -23,9 +23,9 @@ use Rattle.timing.specs.Steps.{timeOfStep, k1000, timeStepMs, stepsOf}
 use Rattle.timing.specs.Claims.{Steps}
 use Rattle.part_checks.specs.PartChecks.{stationOk, cableOk, faultOk, orderOk}
 use Rattle.rules.specs.Studies.{broken, timeOutside, stationOutside, cableOutside, faultOrder, faultRefusal, sweepRefusal}
-use Rattle.rules.specs.Claims.{Sizes}
-use Rattle.rules.proofs.Claims.{refusal-claims, accepted-claims}
-use Rattle.rules.proofs.Sizes.{size-claims}
+use Rattle.rule_claims.specs.Claims.{Sizes}
+use Rattle.rule_claims.proofs.Claims.{refusal-claims, accepted-claims}
+use Rattle.rule_claims.proofs.Sizes.{size-claims}
 use Rattle.exponents.specs.Claims.{isTime, InRanges}
 
 -- g is accepted where no rule of the order is broken; e says whether the event is outside its ranges

@@ -20,7 +20,7 @@ use Rattle.timing.specs.Steps.{timeOfStep, stepsOf}
 use Rattle.rules.specs.Studies.{faultRefusal}
 use Rattle.fault_circuit.specs.Parameters.{parametersOf}
 use Rattle.fault_circuit.specs.Circuit.{circuitAt, circuitOf}
-use Rattle.fault_circuit.specs.Current.{secondsSince, exponents}
+use Rattle.fault_current.specs.Current.{secondsSince, exponents}
 use Rattle.exponents.specs.Claims.{isTime, neverPositive, inUnit, ExponentClaims, InRanges, InRangesClaims}
 use Rattle.exponents.proofs.Ranges.{ranged}
 use Rattle.exponents.proofs.Accepted.{of-fault, of-sweep, step-time}

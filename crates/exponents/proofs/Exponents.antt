@@ -20,7 +20,7 @@ use Rattle.float64.proofs.Range.{UpTo, from-range, neg-neg, times, minus-raised
 use Rattle.float64.proofs.Interval.{max-at-least}
 use Rattle.fault_circuit.specs.declared.parameters.RlcParameters.{RlcParameters}
 use Rattle.fault_circuit.specs.Circuit.{alpha, omega0Sq, underdamped, omegaD, s1, s2, underdampedResponse, overdampedResponse, responseOf, decayTau}
-use Rattle.fault_circuit.specs.Current.{secondsSince, damping, along, duringFault}
+use Rattle.fault_current.specs.Current.{secondsSince, damping, along, duringFault}
 use Rattle.exponents.specs.Claims.{neverPositive}
 use Rattle.exponents.proofs.Ranges.{Ranged}
 use Rattle.exponents.proofs.Roots.{alpha-in, omega0-positive, tau-positive, a-up-to, square-positive, s1-below, s2-below}

@@ -10,7 +10,7 @@ use denote.Triple.Clauses.{AtExit}
 use Rattle.lists.specs.Scans.{every}
 use Rattle.timing.specs.Steps.{timeOfStep, stepsOf}
 use Rattle.rules.specs.Studies.{faultRefusal}
-use Rattle.fault_circuit.specs.Current.{exponents}
+use Rattle.fault_current.specs.Current.{exponents}
 use Rattle.fault_circuit.proofs.fault_circuit as circuit-contract
 use Rattle.fault_circuit.proofs.fault_circuit.Kinds as circuit-kinds
 use Rattle.fault_circuit.proofs.fault_circuit.Reads as circuit-reads

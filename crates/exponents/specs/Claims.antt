@@ -16,7 +16,7 @@ use Rattle.timing.specs.Steps.{timeOfStep, stepsOf, mostSteps}
 use Rattle.part_checks.specs.PartChecks.{stationOk, cableOk}
 use Rattle.rules.specs.Studies.{faultRefusal, sweepRefusal}
 use Rattle.fault_circuit.specs.Circuit.{circuitOf}
-use Rattle.fault_circuit.specs.Current.{exponents}
+use Rattle.fault_current.specs.Current.{exponents}
 
 -- a time in milliseconds, from 0 to 1,000,000,000
 abbrev pub isTime : Float → Bool

@@ -1,4 +1,2 @@
 pub mod Cases
 pub mod Reasons
-pub mod Listing
-pub mod Claims

@@ -9,17 +9,17 @@ use Rattle.grid.specs.declared.parts.DcFaultEvent.{DcFaultEvent}
 use Rattle.grid.specs.declared.simulator.DcSwitchingSimulator.{DcSwitchingSimulator}
 use Rattle.timing.specs.Steps.{stepsOf}
 use Rattle.rules.specs.Studies.{faultRefusal}
-use Rattle.rules.proofs.Claims.{accepted-claims}
-use Rattle.rules.proofs.Sizes.{size-claims}
+use Rattle.rule_claims.proofs.Claims.{accepted-claims}
+use Rattle.rule_claims.proofs.Sizes.{size-claims}
 use Rattle.portions.specs.declared.Stop.{Stop}
 use Rattle.portions.specs.Stopping.{memoryOf}
 use Rattle.portions.proofs.Loop.{Came}
-use Rattle.fault_step.specs.declared.variables.FaultVariables.{FaultVariables}
-use Rattle.fault_step.specs.declared.plan.FaultPlan.{FaultPlan}
-use Rattle.fault_step.specs.Fault.{faultBody}
-use Rattle.fault_step.specs.Plans.{planOf, planStep}
-use Rattle.fault_step.specs.Quiet.{waitsBy, restsBy, quietStep}
-use Rattle.fault_step.proofs.Claims.{plan-claims}
+use Rattle.fault_plan.specs.declared.variables.FaultVariables.{FaultVariables}
+use Rattle.fault_plan.specs.declared.plan.FaultPlan.{FaultPlan}
+use Rattle.fault_plan.specs.Fault.{faultBody}
+use Rattle.fault_plan.specs.Plans.{planOf, planStep}
+use Rattle.fault_plan.specs.Quiet.{waitsBy, restsBy, quietStep}
+use Rattle.fault_step_claims.proofs.Claims.{plan-claims}
 use Rattle.records.specs.Records.{recordOf}
 use Rattle.runs.proofs.Turns.{Stage, Kind, Ready}
 use Rattle.runs.proofs.Refusals.{unbroken}

@@ -1,5 +1,2 @@
-mod FaultLoop
-mod Controls
-pub mod Claims
-pub mod Refusals
+pub mod FaultLoop
 pub mod Tied

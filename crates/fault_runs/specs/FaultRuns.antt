@@ -12,8 +12,8 @@ use Rattle.grid.specs.declared.simulator.DcSwitchingSimulator.{DcSwitchingSimul
 use Rattle.timing.specs.Steps.{durationMs, stepsOf, countedTo, recorded, recordLength}
 use Rattle.rules.specs.Studies.{faultRefusal}
 use Rattle.portions.specs.Stopping.{Stepper, answerOf}
-use Rattle.fault_step.specs.declared.variables.FaultVariables.{FaultVariables}
-use Rattle.fault_step.specs.Fault.{faultBody, faultAfter}
+use Rattle.fault_plan.specs.declared.variables.FaultVariables.{FaultVariables}
+use Rattle.fault_plan.specs.Fault.{faultBody, faultAfter}
 use Rattle.fault_runs.specs.declared.fault_run.FaultRun.{FaultRun}
 use Rattle.fault_runs.specs.declared.fault_run.AdvancedFaultRun.{AdvancedFaultRun}
 use Rattle.records.specs.Records.{recordOf}

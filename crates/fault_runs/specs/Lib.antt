@@ -1,2 +1,1 @@
 pub mod FaultRuns
-pub mod Claims

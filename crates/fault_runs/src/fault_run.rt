@@ -1,28 +1,22 @@
 // A fault run in portions: 000's simulate_fault.
 ghost use mathlib.Core.Path.{_≡_};
 ghost use mathlib.Core.Bool.{cond};
-ghost use Rattle.rules.specs.Studies.{numberOf, faultRefusal};
 ghost use Rattle.portions.specs.Stopping.{memoryOf};
-ghost use Rattle.fault_runs.specs.FaultRuns.{faultRunRefused, blankFaultRun, startedFaultRun, faultStepper, advancedFaultRun, faultFigures};
-use fault_step::FaultVariables;
-use fault_step::fault_plan;
+ghost use Rattle.fault_runs.specs.FaultRuns.{faultRunRefused, faultStepper, advancedFaultRun, faultFigures};
+use fault_plan::FaultVariables;
+use fault_plan::fault_plan;
+use fault_plan::quiet_step;
+use fault_plan::rests;
+use fault_plan::waits;
 use fault_step::fault_step;
-use fault_step::first_fault_variables;
-use fault_step::quiet_step;
-use fault_step::rests;
-use fault_step::waits;
 use grid::DcFaultEvent;
-use grid::DcFaultType;
 use grid::DcSwitchingSimulator;
 use portions::Stop;
 use portions::reason;
 use records::put_if_recorded;
 use records::record_counts;
-use rules::Verdict;
 use rules::check_fault;
 use runs::DcTransientResult;
-use runs::blank_grid;
-use runs::blank_state;
 use timing::duration_ms;
 use timing::is_recorded;
 use timing::record_length;
@@ -36,65 +30,11 @@ pub struct FaultRun {
     pub variables: FaultVariables,
 }
 
-pub struct StartedFaultRun {
-    pub verdict: Verdict,
-    pub run: FaultRun,
-}
-
 pub struct AdvancedFaultRun {
     pub stop: Stop,
     pub steps: u64,
     pub records: u64,
     pub run: FaultRun,
-}
-
-// DcSwitchingSimulator::simulate_fault, up to its loop. Beside a refusal stands a run of zeros.
-pub fn simulate_fault(g: DcSwitchingSimulator, fault: DcFaultEvent) -> StartedFaultRun
-    ensures { λ r. ⌜ (numberOf (r .verdict) ≡ faultRefusal g fault) × (r .run ≡ startedFaultRun g fault) ⌝ }
-{
-    let verdict = check_fault(g, fault);
-    if rules::number(verdict) == 0 {
-        return StartedFaultRun {
-            verdict,
-            run: FaultRun {
-                grid: g,
-                fault,
-                steps_made: 0,
-                variables: first_fault_variables(g),
-            },
-        };
-    }
-    StartedFaultRun {
-        verdict,
-        run: blank_fault_run(),
-    }
-}
-
-fn blank_fault_run() -> FaultRun
-    ensures { λ r. ⌜ r ≡ blankFaultRun ⌝ }
-{
-    FaultRun {
-        grid: blank_grid(),
-        fault: DcFaultEvent {
-            fault_type: DcFaultType::PoleToGround,
-            location_cable_id: 0,
-            location_fraction: 0.0,
-            fault_resistance: 0.0,
-            inception_time_ms: 0.0,
-        },
-        steps_made: 0,
-        variables: FaultVariables {
-            state: blank_state(),
-            peak_fault_ka: 0.0,
-            max_di_dt: 0.0,
-            energy_mj: 0.0,
-            fault_cleared: false,
-            clearing_time_ms: 0.0,
-            voltage_recovery_time_ms: 0.0,
-            prev_fault_current_ka: 0.0,
-            fault_active: false,
-        },
-    }
 }
 
 // Rule 11.

@@ -1,9 +1,7 @@
 // Fault runs: one fault, run in portions on lent memory.
 mod fault_run;
 
+pub use fault_plan::FaultVariables;
 pub use fault_run::AdvancedFaultRun;
 pub use fault_run::FaultRun;
-pub use fault_run::StartedFaultRun;
-pub use fault_run::simulate_fault;
-pub use fault_step::FaultVariables;
 pub use runs::DcTransientResult;

@@ -1,9 +1,3 @@
-mod Accepted
-mod Shown
+pub mod Shown
 mod SweepLoop
-mod Rows
-mod Fresh
-pub mod Claims
-pub mod Refusals
 pub mod Tied
-mod Controls

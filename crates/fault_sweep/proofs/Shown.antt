@@ -13,7 +13,7 @@ use Rattle.grid.specs.declared.parts.SweepOrder.{SweepOrder}
 use Rattle.grid.specs.declared.simulator.DcSwitchingSimulator.{DcSwitchingSimulator}
 use Rattle.timing.specs.Steps.{stepsOf}
 use Rattle.rules.specs.Studies.{sweepRefusal}
-use Rattle.rules.proofs.Claims.{accepted-claims}
+use Rattle.rule_claims.proofs.Claims.{accepted-claims}
 use Rattle.power_flow.specs.declared.flow.DcGridSolution.{DcGridSolution}
 use Rattle.portions.specs.Cases.{Cases, rowOf}
 use Rattle.portions.specs.Demand3.{Sweeps}
@@ -22,7 +22,7 @@ use Rattle.fault_cases.specs.declared.reasons.CaseOutcome.{CaseOutcome}
 use Rattle.fault_cases.specs.Cases.{casesOf, placeOf, faultOf}
 use Rattle.fault_cases.specs.Reasons as reason
 use Rattle.fault_cases.specs.Reasons.{reasonsOf, numbersOf}
-use Rattle.fault_cases.specs.Listing.{rowFor}
+use Rattle.case_listing.specs.Listing.{rowFor}
 use Rattle.case_steps.specs.declared.open_case.OpenCase.{OpenCase}
 use Rattle.case_steps.specs.OpenCases.{caseStep, caseFrom}
 use Rattle.fault_sweep.specs.Advance.{sweepBroken, casesFor, sweepWith, sweepStepper}

@@ -17,9 +17,9 @@ use Rattle.grid.specs.declared.parts.SweepOrder.{SweepOrder}
 use Rattle.grid.specs.declared.simulator.DcSwitchingSimulator.{DcSwitchingSimulator}
 use Rattle.timing.specs.Steps.{stepsOf, mostSteps, countedTo}
 use Rattle.timing.proofs.Claims.{step-claims}
-use Rattle.rules.proofs.Claims.{accepted-claims}
+use Rattle.rule_claims.proofs.Claims.{accepted-claims}
 use Rattle.rules.specs.Studies.{sweepRefusal}
-use Rattle.rules.proofs.Sizes.{size-claims}
+use Rattle.rule_claims.proofs.Sizes.{size-claims}
 use Rattle.power_flow.specs.declared.flow.DcGridSolution.{DcGridSolution}
 use Rattle.portions.specs.declared.Stop.{Stop}
 use Rattle.portions.specs.declared.Stop.the-variants.{Finished}
@@ -28,19 +28,19 @@ use Rattle.portions.specs.Cases.{toList, opened}
 use Rattle.portions.proofs.Loop.{Going, Came, going-start, came-finished, room-fits}
 use Rattle.portions.proofs.Strides as strides
 use Rattle.portions.proofs.Strides.{closes-it, leaves-it}
-use Rattle.fault_step.specs.Plans.{planOf}
+use Rattle.fault_plan.specs.Plans.{planOf}
 use Rattle.fault_cases.specs.Cases.{casesOf, faultOf}
-use Rattle.fault_cases.specs.Listing.{rowFor}
+use Rattle.case_listing.specs.Listing.{rowFor}
 use Rattle.case_steps.specs.declared.open_case.OpenCase.{OpenCase}
 use Rattle.case_steps.specs.OpenCases.{startCase, noCase, outcomeIn, caseFrom}
 use Rattle.case_steps.specs.Plans.{planCaseFrom}
-use Rattle.case_steps.proofs.Claims.{case-claims}
-use Rattle.fault_sweep.specs.declared.advance.Common.{Common}
+use Rattle.case_claims.proofs.Claims.{case-claims}
+use Rattle.sweep_cases.specs.declared.cases.Common.{Common}
 use Rattle.fault_sweep.specs.declared.sweep.Sweep.{Sweep}
 use Rattle.fault_sweep.specs.declared.sweep.AdvancedSweep.{AdvancedSweep}
 use Rattle.fault_sweep.specs.KeptSweep.{keptAt}
 use Rattle.fault_sweep.specs.Advance.{sweepBroken, casesFor, sweepWith, sweepStepper, advancedSweep}
-use Rattle.fault_sweep.specs.Plans.{commonOf, planFor}
+use Rattle.sweep_cases.specs.Plans.{commonOf, planFor}
 use Rattle.fault_sweep.proofs.Shown.{row-eight, swept, from-is}
 
 one-at-most : (x : Option (List ℕ)) → length (toList x) ≤ 1

@@ -13,7 +13,7 @@ use Rattle.portions.specs.Stopping.{Stepper, answerOf}
 use Rattle.portions.specs.Cases.{Cases, KeptCase, closes, rowWritten, nextKept}
 use Rattle.fault_cases.specs.Cases.{casesOf, faultOf}
 use Rattle.fault_cases.specs.Reasons.{rowLength}
-use Rattle.fault_cases.specs.Listing.{rowFor}
+use Rattle.case_listing.specs.Listing.{rowFor}
 use Rattle.case_steps.specs.declared.open_case.OpenCase.{OpenCase}
 use Rattle.case_steps.specs.OpenCases.{startCase, noCase, outcomeIn, caseStep}
 use Rattle.fault_sweep.specs.declared.sweep.Sweep.{Sweep}

@@ -1,20 +1,17 @@
 -- The kept sweep, document 01.7, from the listing's own definitions: nothing here knows of an advance. Definitions only.
 use Prim.Native.Nat.{ℕ, _*_, _/_, _%_}
-use mathlib.Core.Bool.{not, cond}
+use mathlib.Core.Bool.{cond}
 use lib.Dec.{eqb, ltb}
-use Rattle.float64.specs.Constants.{nought}
 use Rattle.grid.specs.declared.parts.DcFaultEvent.{DcFaultEvent}
 use Rattle.grid.specs.declared.parts.SweepOrder.{SweepOrder}
 use Rattle.grid.specs.declared.simulator.DcSwitchingSimulator.{DcSwitchingSimulator}
 use Rattle.timing.specs.Steps.{stepsOf}
-use Rattle.rules.specs.Studies.{startRefusal}
 use Rattle.state_derivatives.specs.declared.state.DcTransientState.{DcTransientState}
 use Rattle.power_flow.specs.declared.flow.DcGridSolution.{DcGridSolution}
-use Rattle.power_flow.specs.Flow.{solutionOf, blankSolution}
-use Rattle.fault_step.specs.Fault.{faultAfter}
-use Rattle.runs.specs.Blank.{blankGrid, blankState}
+use Rattle.fault_plan.specs.Fault.{faultAfter}
+use Rattle.runs.specs.Blank.{blankState}
 use Rattle.fault_cases.specs.Cases.{casesOf, faultOf}
-use Rattle.fault_cases.specs.Listing.{someDetected, clearingCurrent}
+use Rattle.case_listing.specs.Listing.{someDetected, clearingCurrent}
 use Rattle.case_steps.specs.declared.open_case.OpenCase.{OpenCase}
 use Rattle.case_steps.specs.OpenCases.{noCase}
 use Rattle.fault_sweep.specs.declared.sweep.Sweep.{Sweep}
@@ -37,17 +34,3 @@ module _ (g : DcSwitchingSimulator) (o : SweepOrder) (flow : DcGridSolution) whe
 -- 01's "state of that step": zeros where no step is made. 000's variable `state` is the state of the last step, so one field is both.
 abbrev pub stateOfStep : Sweep → DcTransientState
 stateOfStep s = cond (eqb (s .«steps_made») 0) blankState (s .«open_case» .variables .state)
-
--- ---- the start
-
--- 3, 1, 2, 4, 5, 6, 7, 8, 9, and 10 where "the flow has not converged"
-abbrev pub sweepRefused : DcSwitchingSimulator → SweepOrder → ℕ
-sweepRefused g o = startRefusal g o (not (solutionOf g .converged))
-
--- beside a refusal: all zero and false
-abbrev pub blankSweep : Sweep
-blankSweep = keptAt blankGrid (record { «fault_resistance» = nought; «inception_time_ms» = nought; «low_tenth» = 0; «high_tenth» = 0 }) blankSolution 0 0 noCase
-
--- "A fresh sweep is what a start that isn't refused returns: the kept sweep after 0 steps"
-unfoldable pub startedSweep : DcSwitchingSimulator → SweepOrder → Sweep
-startedSweep g o = cond (eqb (sweepRefused g o) 0) (sweepAfter g o (solutionOf g) 0) blankSweep

@@ -1,4 +1,2 @@
 pub mod KeptSweep
 pub mod Advance
-pub mod Plans
-pub mod Claims

@@ -1,4 +1,3 @@
 pub mod Constants
 pub mod Balance
 pub mod Voltages
-pub mod Claims

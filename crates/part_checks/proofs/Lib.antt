@@ -1,3 +1,2 @@
-pub mod Claims
 pub mod Tied
 mod Controls

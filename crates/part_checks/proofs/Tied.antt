@@ -1,18 +1,7 @@
--- The claims speak of what the code returns: what a caller learns from a contract in src/, as Rattle reads its clauses, gives the claim of the result, and nothing is asked of the caller.
+-- Nothing is asked of a caller, as Rattle reads the clauses of the contracts in src/.
 -- Assumes nothing.
-use mathlib.Core.Path.{_≡_, sym, _∙_, ap}
-use mathlib.Core.Bool.{not}
-use Prim.Native.Nat.{ℕ}
-use lib.Dec.{ltb}
-use lib.ListN.{length}
 use contract.Lifetimes.{Lfts}
-use borrow.Fn.World.{ArgsD, ResD}
-use borrow.Fn.Kinds.{endedOf}
-use denote.Triple.Clauses.{AtExit}
-use Rattle.lists.specs.Scans.{every}
-use Rattle.grid.specs.Simulator.{stationsOf, cablesOf, breakersOf}
-use Rattle.part_checks.specs.PartChecks.{stationOk, cableOk, breakerOk}
-use Rattle.part_checks.proofs.Claims.{position-claims}
+use borrow.Fn.World.{ArgsD}
 use Rattle.part_checks.proofs.accepted.check_station as check-station-contract
 use Rattle.part_checks.proofs.accepted.check_station.Reads as check-station-reads
 use Rattle.part_checks.proofs.accepted.check_cable as check-cable-contract
@@ -23,15 +12,6 @@ use Rattle.part_checks.proofs.accepted.check_event as check-event-contr
 use Rattle.part_checks.proofs.accepted.check_event.Reads as check-event-reads
 use Rattle.part_checks.proofs.accepted.check_order as check-order-contract
 use Rattle.part_checks.proofs.accepted.check_order.Reads as check-order-reads
-use Rattle.part_checks.proofs.positions.first_bad_station as first-bad-station-contract
-use Rattle.part_checks.proofs.positions.first_bad_station.Kinds as first-bad-station-kinds
-use Rattle.part_checks.proofs.positions.first_bad_station.Reads as first-bad-station-reads
-use Rattle.part_checks.proofs.positions.first_bad_cable as first-bad-cable-contract
-use Rattle.part_checks.proofs.positions.first_bad_cable.Kinds as first-bad-cable-kinds
-use Rattle.part_checks.proofs.positions.first_bad_cable.Reads as first-bad-cable-reads
-use Rattle.part_checks.proofs.positions.first_bad_breaker as first-bad-breaker-contract
-use Rattle.part_checks.proofs.positions.first_bad_breaker.Kinds as first-bad-breaker-kinds
-use Rattle.part_checks.proofs.positions.first_bad_breaker.Reads as first-bad-breaker-reads
 
 pub check-station-any : (κs : Lfts 0) (a : ArgsD check-station-contract.signature κs) → check-station-reads.Asked κs a
 check-station-any κs a = tt
@@ -47,24 +27,3 @@ check-event-any κs a = tt
 
 pub check-order-any : (κs : Lfts 0) (a : ArgsD check-order-contract.signature κs) → check-order-reads.Asked κs a
 check-order-any κs a = tt
-
-module _ (κs : Lfts 0) (a : ArgsD first-bad-station-contract.signature κs) (r : ResD first-bad-station-contract.signature κs) (e : AtExit (endedOf 0 first-bad-station-kinds.ps first-bad-station-kinds.r) κs) where
-  pub first-bad-station-any : first-bad-station-reads.Asked κs a
-  first-bad-station-any = tt
-
-  pub first-bad-station-short : first-bad-station-reads.Learnt κs a r e → ltb r (length (stationsOf (a .0))) ≡ not (every stationOk (stationsOf (a .0)))
-  first-bad-station-short h = ap (λ (p : ℕ). ltb p (length (stationsOf (a .0)))) h ∙ sym (position-claims .station (a .0))
-
-module _ (κs : Lfts 0) (a : ArgsD first-bad-cable-contract.signature κs) (r : ResD first-bad-cable-contract.signature κs) (e : AtExit (endedOf 0 first-bad-cable-kinds.ps first-bad-cable-kinds.r) κs) where
-  pub first-bad-cable-any : first-bad-cable-reads.Asked κs a
-  first-bad-cable-any = tt
-
-  pub first-bad-cable-short : first-bad-cable-reads.Learnt κs a r e → ltb r (length (cablesOf (a .0))) ≡ not (every cableOk (cablesOf (a .0)))
-  first-bad-cable-short h = ap (λ (p : ℕ). ltb p (length (cablesOf (a .0)))) h ∙ sym (position-claims .cable (a .0))
-
-module _ (κs : Lfts 0) (a : ArgsD first-bad-breaker-contract.signature κs) (r : ResD first-bad-breaker-contract.signature κs) (e : AtExit (endedOf 0 first-bad-breaker-kinds.ps first-bad-breaker-kinds.r) κs) where
-  pub first-bad-breaker-any : first-bad-breaker-reads.Asked κs a
-  first-bad-breaker-any = tt
-
-  pub first-bad-breaker-short : first-bad-breaker-reads.Learnt κs a r e → ltb r (length (breakersOf (a .0))) ≡ not (every breakerOk (breakersOf (a .0)))
-  first-bad-breaker-short h = ap (λ (p : ℕ). ltb p (length (breakersOf (a .0)))) h ∙ sym (position-claims .breaker (a .0))

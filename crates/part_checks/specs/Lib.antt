@@ -1,2 +1,1 @@
 pub mod PartChecks
-pub mod Claims

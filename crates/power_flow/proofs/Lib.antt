@@ -1,4 +1,3 @@
 pub mod Points
-pub mod Claims
 pub mod Tied
 mod Controls

@@ -1,3 +1,2 @@
 pub mod Solution
 pub mod Flow
-pub mod Claims

@@ -36,8 +36,8 @@ pub fn answer(lines: &mut [u8; ROOM], answers: &mut [u8; ROOM], c: Cursor) -> Af
     let clearing_ms = float64::from_bits(n[2]);
     let c = append_parameters(answers, c, fault_circuit::fault_rlc_params(g, fault));
     let circuit = fault_circuit::fault_circuit(g, fault);
-    let c = numbers::append_double(answers, c, fault_circuit::fault_current_ka(circuit, t_ms));
-    let left_ka = fault_circuit::decayed_current_ka(circuit, current_ka, clearing_ms, t_ms);
+    let c = numbers::append_double(answers, c, fault_current::fault_current_ka(circuit, t_ms));
+    let left_ka = fault_current::decayed_current_ka(circuit, current_ka, clearing_ms, t_ms);
     After::Job(numbers::append_double(answers, c, left_ka))
 }
 

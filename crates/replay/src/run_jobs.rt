@@ -10,8 +10,8 @@ use crate::numbers::ROOM;
 use crate::numbers::Taken;
 use crate::refusals;
 use crate::times;
+use fault_plan::FaultVariables;
 use fault_runs::FaultRun;
-use fault_step::FaultVariables;
 use grid::DcFaultEvent;
 use grid::DcSwitchingSimulator;
 use portions::Stop;
@@ -85,7 +85,7 @@ fn run_fault(
     g: DcSwitchingSimulator,
     fault: DcFaultEvent,
 ) -> After {
-    let started = fault_runs::simulate_fault(g, fault);
+    let started = fault_start::simulate_fault(g, fault);
     let verdict = started.verdict;
     let run = started.run;
     let refusal = rules::number(verdict);
@@ -113,7 +113,7 @@ pub fn switching_run(lines: &mut [u8; ROOM], answers: &mut [u8; ROOM], c: Cursor
     }
     let n = row.numbers;
     let c = row.c;
-    let started = switching_runs::simulate_switching(g, n[0], n[1] == 1);
+    let started = switching_start::simulate_switching(g, n[0], n[1] == 1);
     let verdict = started.verdict;
     let run = started.run;
     let refusal = rules::number(verdict);

@@ -11,7 +11,7 @@ use crate::run_jobs;
 use crate::run_jobs::MOST;
 use crate::states;
 use case_steps::OpenCase;
-use fault_step::FaultVariables;
+use fault_plan::FaultVariables;
 use fault_sweep::Sweep;
 use grid::SweepOrder;
 
@@ -40,7 +40,7 @@ pub fn sweep(lines: &mut [u8; ROOM], answers: &mut [u8; ROOM], c: Cursor) -> Aft
     let OrderRead::Order(order, c) = read_order(lines, c) else {
         return After::Nothing(c);
     };
-    let started = fault_sweep::start_sweep(g, order);
+    let started = sweep_start::start_sweep(g, order);
     let verdict = started.verdict;
     let sweep = started.sweep;
     let refusal = rules::number(verdict);

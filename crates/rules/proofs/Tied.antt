@@ -1,17 +1,10 @@
--- The claims speak of what the code returns: what a caller learns from a contract in src/, as Rattle reads its clauses, gives the claim of the result, and nothing is asked of the caller.
--- Assumes nothing.
-use mathlib.Core.Path.{_≡_, sym, subst}
-use mathlib.Core.Logic.{_↔_}
-use mathlib.Core.Bool.{true, false, not}
-use Prim.Native.Nat.{ℕ}
+-- What a caller learns from the contracts in src/, as Rattle reads their clauses, is the definition of the result, and nothing is asked of the caller. Assumes nothing.
+use mathlib.Core.Path.{_≡_}
 use contract.Lifetimes.{Lfts}
 use borrow.Fn.World.{ArgsD, ResD}
 use borrow.Fn.Kinds.{endedOf}
 use denote.Triple.Clauses.{AtExit}
-use Rattle.part_checks.specs.PartChecks.{stationOk, faultOk, orderOk}
-use Rattle.rules.specs.Studies.{numberOf, broken, flowOrder, detectionOrder, switchingOrder, faultOrder}
-use Rattle.rules.specs.Claims.{Decides}
-use Rattle.rules.proofs.Claims.{refusal-claims}
+use Rattle.rules.specs.Studies.{numberOf, flowRefusal, detectionRefusal, switchingRefusal, faultRefusal, sweepRefusal, pointRefusal}
 use Rattle.rules.proofs.studies.check_flow as check-flow-contract
 use Rattle.rules.proofs.studies.check_flow.Kinds as check-flow-kinds
 use Rattle.rules.proofs.studies.check_flow.Reads as check-flow-reads
@@ -37,43 +30,43 @@ module _ (κs : Lfts 0) (a : ArgsD check-flow-contract.signature κs) (r : ResD 
   pub check-flow-any : check-flow-reads.Asked κs a
   check-flow-any = tt
 
-  pub check-flow-decides : check-flow-reads.Learnt κs a r e → Decides (numberOf r) (broken (a .0) false) flowOrder
-  check-flow-decides h = subst (λ (k : ℕ). Decides k (broken (a .0) false) flowOrder) (sym h) (refusal-claims .flow (a .0))
+  pub check-flow-is : check-flow-reads.Learnt κs a r e → numberOf r ≡ flowRefusal (a .0)
+  check-flow-is h = h
 
 module _ (κs : Lfts 0) (a : ArgsD check-detection-contract.signature κs) (r : ResD check-detection-contract.signature κs) (e : AtExit (endedOf 0 check-detection-kinds.ps check-detection-kinds.r) κs) where
   pub check-detection-any : check-detection-reads.Asked κs a
   check-detection-any = tt
 
-  pub check-detection-decides : check-detection-reads.Learnt κs a r e → Decides (numberOf r) (broken (a .0) false) detectionOrder
-  check-detection-decides h = subst (λ (k : ℕ). Decides k (broken (a .0) false) detectionOrder) (sym h) (refusal-claims .detection (a .0))
+  pub check-detection-is : check-detection-reads.Learnt κs a r e → numberOf r ≡ detectionRefusal (a .0)
+  check-detection-is h = h
 
 module _ (κs : Lfts 0) (a : ArgsD check-switching-contract.signature κs) (r : ResD check-switching-contract.signature κs) (e : AtExit (endedOf 0 check-switching-kinds.ps check-switching-kinds.r) κs) where
   pub check-switching-any : check-switching-reads.Asked κs a
   check-switching-any = tt
 
-  pub check-switching-decides : check-switching-reads.Learnt κs a r e → Decides (numberOf r) (broken (a .0) false) switchingOrder
-  check-switching-decides h = subst (λ (k : ℕ). Decides k (broken (a .0) false) switchingOrder) (sym h) (refusal-claims .switching (a .0))
+  pub check-switching-is : check-switching-reads.Learnt κs a r e → numberOf r ≡ switchingRefusal (a .0)
+  check-switching-is h = h
 
 module _ (κs : Lfts 0) (a : ArgsD check-fault-contract.signature κs) (r : ResD check-fault-contract.signature κs) (e : AtExit (endedOf 0 check-fault-kinds.ps check-fault-kinds.r) κs) where
   pub check-fault-any : check-fault-reads.Asked κs a
   check-fault-any = tt
 
-  pub check-fault-decides : check-fault-reads.Learnt κs a r e → Decides (numberOf r) (broken (a .0) (not (faultOk (a .1 .0)))) faultOrder
-  check-fault-decides h = subst (λ (k : ℕ). Decides k (broken (a .0) (not (faultOk (a .1 .0)))) faultOrder) (sym h) (refusal-claims .fault (a .0) (a .1 .0))
+  pub check-fault-is : check-fault-reads.Learnt κs a r e → numberOf r ≡ faultRefusal (a .0) (a .1 .0)
+  check-fault-is h = h
 
 module _ (κs : Lfts 0) (a : ArgsD check-sweep-contract.signature κs) (r : ResD check-sweep-contract.signature κs) (e : AtExit (endedOf 0 check-sweep-kinds.ps check-sweep-kinds.r) κs) where
   pub check-sweep-any : check-sweep-reads.Asked κs a
   check-sweep-any = tt
 
-  pub check-sweep-decides : check-sweep-reads.Learnt κs a r e → Decides (numberOf r) (broken (a .0) (not (orderOk (a .1 .0)))) faultOrder
-  check-sweep-decides h = subst (λ (k : ℕ). Decides k (broken (a .0) (not (orderOk (a .1 .0)))) faultOrder) (sym h) (refusal-claims .sweep (a .0) (a .1 .0))
+  pub check-sweep-is : check-sweep-reads.Learnt κs a r e → numberOf r ≡ sweepRefusal (a .0) (a .1 .0)
+  check-sweep-is h = h
 
 module _ (κs : Lfts 0) (a : ArgsD check-operating-point-contract.signature κs) (r : ResD check-operating-point-contract.signature κs) (e : AtExit (endedOf 0 check-operating-point-kinds.ps check-operating-point-kinds.r) κs) where
   pub check-operating-point-any : check-operating-point-reads.Asked κs a
   check-operating-point-any = tt
 
-  pub check-operating-point-decides : check-operating-point-reads.Learnt κs a r e → ((numberOf r ≡ 6) ↔ (stationOk (a .0) ≡ false)) × ((numberOf r ≡ 0) ↔ (stationOk (a .0) ≡ true))
-  check-operating-point-decides h = subst (λ (k : ℕ). ((k ≡ 6) ↔ (stationOk (a .0) ≡ false)) × ((k ≡ 0) ↔ (stationOk (a .0) ≡ true))) (sym h) (refusal-claims .point-refused (a .0), refusal-claims .point-accepted (a .0))
+  pub check-operating-point-is : check-operating-point-reads.Learnt κs a r e → numberOf r ≡ pointRefusal (a .0)
+  check-operating-point-is h = h
 
 pub number-any : (κs : Lfts 0) (a : ArgsD number-contract.signature κs) → number-reads.Asked κs a
 number-any κs a = tt

@@ -1,2 +1,1 @@
 pub mod Studies
-pub mod Claims

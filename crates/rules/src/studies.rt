@@ -174,17 +174,17 @@ fn too_many_steps(g: DcSwitchingSimulator) -> bool
 fn station_outside(g: DcSwitchingSimulator) -> bool
     ensures { λ r. ⌜ r ≡ stationOutside g ⌝ }
 {
-    part_checks::first_bad_station(g) < present(g.n_stations, 32)
+    part_positions::first_bad_station(g) < present(g.n_stations, 32)
 }
 
 fn cable_outside(g: DcSwitchingSimulator) -> bool
     ensures { λ r. ⌜ r ≡ cableOutside g ⌝ }
 {
-    part_checks::first_bad_cable(g) < present(g.n_cables, 64)
+    part_positions::first_bad_cable(g) < present(g.n_cables, 64)
 }
 
 fn breaker_outside(g: DcSwitchingSimulator) -> bool
     ensures { λ r. ⌜ r ≡ breakerOutside g ⌝ }
 {
-    part_checks::first_bad_breaker(g) < present(g.n_breakers, 32)
+    part_positions::first_bad_breaker(g) < present(g.n_breakers, 32)
 }

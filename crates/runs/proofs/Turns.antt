@@ -18,7 +18,7 @@ use Rattle.grid.specs.declared.simulator.DcSwitchingSimulator.{DcSwitchingSimul
 use Rattle.timing.specs.Steps.{stepsOf, mostSteps, countedTo, recorded, recordLength}
 use Rattle.timing.specs.Claims.{Steps}
 use Rattle.timing.proofs.Claims.{step-claims}
-use Rattle.rules.specs.Claims.{Sizes}
+use Rattle.rule_claims.specs.Claims.{Sizes}
 use Rattle.portions.specs.Stopping.{Stepper, joined, reasonOf}
 use Rattle.state_derivatives.specs.declared.state.DcTransientState.{DcTransientState}
 use Rattle.records.specs.declared.record.RecordCounts.{RecordCounts}

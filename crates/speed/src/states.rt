@@ -1,7 +1,7 @@
 // Steps of a grid's state.
 use crate::grids;
 use crate::requests::Request;
-use fault_runs::simulate_fault;
+use fault_start::simulate_fault;
 use network::Drain;
 use network::Network;
 use network::drain_of;

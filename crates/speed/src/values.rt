@@ -3,7 +3,7 @@ use crate::grids;
 use crate::requests::Request;
 use fault_circuit::FaultCircuit;
 use fault_circuit::fault_circuit;
-use fault_circuit::fault_current_ka;
+use fault_current::fault_current_ka;
 use grid::ConverterTopology;
 use operating_points::lcc_operating_point;
 use operating_points::vsc_operating_point;

@@ -4,13 +4,13 @@ use crate::grids;
 use crate::requests::Request;
 use crate::states::sum_state;
 use fault_runs::FaultRun;
-use fault_runs::simulate_fault;
+use fault_start::simulate_fault;
 use grid::DcFaultEvent;
 use grid::DcSwitchingSimulator;
 use portions::Stop;
 use runs::DcTransientResult;
 use switching_runs::SwitchingRun;
-use switching_runs::simulate_switching;
+use switching_start::simulate_switching;
 
 // 64 KB.
 const MEMORY: usize = 8192;

@@ -1,6 +1,5 @@
 pub mod Ends
 pub mod Stages
 pub mod Tables
-pub mod Claims
 pub mod Tied
 mod Controls

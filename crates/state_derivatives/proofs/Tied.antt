@@ -1,10 +1,9 @@
 -- The claims speak of what the code returns: what a caller learns from a contract in src/, as Rattle reads its clauses, gives the claim of the result, and nothing is asked of the caller.
 -- Assumes nothing.
-use Prim.Native.Nat.{ℕ, _+_, _≤_, _<_}
+use Prim.Native.Nat.{ℕ, _+_, _<_}
 use mathlib.Core.Path.{_≡_}
-use mathlib.Core.List.{List}
 use native.Mathlib.Omega.{arith}
-use lib.Ieee.{Float, nan}
+use lib.Ieee.{nan}
 use contract.Lifetimes.{Lfts}
 use borrow.Fn.World.{ArgsD, ResD}
 use borrow.Fn.Kinds.{endedOf}
@@ -12,25 +11,14 @@ use denote.Triple.Clauses.{AtExit}
 use Rattle.lists.proofs.Fills.{getD-padded}
 use Rattle.float64.specs.Constants.{nought}
 use Rattle.float64.specs.Arithmetic.{of}
-use Rattle.network.specs.declared.network.Drain.{Drain}
 use Rattle.network.specs.Network.{stationCount, cableCount, end}
-use Rattle.state_derivatives.specs.Derivatives.{net, derivative, derivatives, slopes}
-use Rattle.state_derivatives.specs.OfGrid.{gridDerivatives}
-use Rattle.state_derivatives.proofs.Claims.{network-claims}
-use Rattle.network.proofs.network_of as network-contract
-use Rattle.network.proofs.network_of.Kinds as network-kinds
-use Rattle.network.proofs.network_of.Reads as network-reads
+use Rattle.state_derivatives.specs.Derivatives.{net, derivative, derivatives}
 use Rattle.state_derivatives.proofs.derivatives.state_derivatives as derivatives-contract
 use Rattle.state_derivatives.proofs.derivatives.state_derivatives.Kinds as derivatives-kinds
 use Rattle.state_derivatives.proofs.derivatives.state_derivatives.Reads as derivatives-reads
 use Rattle.state_derivatives.proofs.derivatives.net_currents as currents-contract
 use Rattle.state_derivatives.proofs.derivatives.net_currents.Kinds as currents-kinds
 use Rattle.state_derivatives.proofs.derivatives.net_currents.Reads as currents-reads
-
-module _ (κs : Lfts 0) (a : ArgsD network-contract.signature κs) (r : ResD network-contract.signature κs) (e : AtExit (endedOf 0 network-kinds.ps network-kinds.r) κs) where
-  -- the rates by the network that is returned are the grid's
-  pub network-rates : network-reads.Learnt κs a r e → (d : Drain) (y : List Float) → a .0 .«n_stations» ≤ 32 → a .0 .«n_cables» ≤ 64 → slopes r d y ≡ gridDerivatives (a .0) d y
-  network-rates h d y n m = rw h (network-claims .rates (a .0) d y n m)
 
 module _ (κs : Lfts 5) (a : ArgsD derivatives-contract.signature κs) (r : ResD derivatives-contract.signature κs) (e : AtExit (endedOf 5 derivatives-kinds.ps derivatives-kinds.r) κs) where
   pub derivatives-any : derivatives-reads.Asked κs a

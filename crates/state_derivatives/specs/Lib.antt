@@ -1,3 +1,2 @@
 pub mod Derivatives
 pub mod OfGrid
-pub mod Claims

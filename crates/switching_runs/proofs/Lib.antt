@@ -1,5 +1,3 @@
-mod SwitchingLoop
+pub mod SwitchingLoop
 mod Controls
-pub mod Claims
-pub mod Refusals
 pub mod Tied

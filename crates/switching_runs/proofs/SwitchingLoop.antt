@@ -7,8 +7,8 @@ use lib.Ieee.{Float}
 use Rattle.grid.specs.declared.simulator.DcSwitchingSimulator.{DcSwitchingSimulator}
 use Rattle.timing.specs.Steps.{stepsOf}
 use Rattle.rules.specs.Studies.{switchingRefusal}
-use Rattle.rules.proofs.Claims.{accepted-claims}
-use Rattle.rules.proofs.Sizes.{size-claims}
+use Rattle.rule_claims.proofs.Claims.{accepted-claims}
+use Rattle.rule_claims.proofs.Sizes.{size-claims}
 use Rattle.portions.specs.declared.Stop.{Stop}
 use Rattle.portions.specs.Stopping.{memoryOf}
 use Rattle.portions.proofs.Loop.{Came}

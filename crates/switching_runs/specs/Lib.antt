@@ -1,2 +1,1 @@
 pub mod SwitchingRuns
-pub mod Claims

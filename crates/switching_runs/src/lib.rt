@@ -3,7 +3,5 @@ mod switching_run;
 
 pub use runs::DcTransientResult;
 pub use switching_run::AdvancedSwitchingRun;
-pub use switching_run::StartedSwitchingRun;
 pub use switching_run::SwitchingRun;
-pub use switching_run::simulate_switching;
 pub use switching_step::SwitchingVariables;

@@ -1,20 +1,15 @@
 // A switching run in portions: 000's simulate_switching.
 ghost use mathlib.Core.Path.{_≡_};
-ghost use Rattle.rules.specs.Studies.{numberOf, switchingRefusal};
 ghost use Rattle.portions.specs.Stopping.{memoryOf};
-ghost use Rattle.switching_runs.specs.SwitchingRuns.{switchingRunRefused, blankSwitchingRun, startedSwitchingRun, switchingStepper, advancedSwitchingRun, switchingResults};
+ghost use Rattle.switching_runs.specs.SwitchingRuns.{switchingRunRefused, switchingStepper, advancedSwitchingRun, switchingResults};
 use grid::DcSwitchingSimulator;
 use portions::Stop;
 use portions::reason;
 use records::put_if_recorded;
 use records::record_counts;
-use rules::Verdict;
 use rules::check_switching;
 use runs::DcTransientResult;
-use runs::blank_grid;
-use runs::blank_state;
 use switching_step::SwitchingVariables;
-use switching_step::first_switching_variables;
 use switching_step::switching_plan;
 use switching_step::switching_step;
 use timing::is_recorded;
@@ -30,58 +25,11 @@ pub struct SwitchingRun {
     pub variables: SwitchingVariables,
 }
 
-pub struct StartedSwitchingRun {
-    pub verdict: Verdict,
-    pub run: SwitchingRun,
-}
-
 pub struct AdvancedSwitchingRun {
     pub stop: Stop,
     pub steps: u64,
     pub records: u64,
     pub run: SwitchingRun,
-}
-
-// DcSwitchingSimulator::simulate_switching, up to its loop. Beside a refusal stands a run of zeros.
-pub fn simulate_switching(
-    g: DcSwitchingSimulator,
-    breaker_id: u64,
-    open: bool,
-) -> StartedSwitchingRun
-    ensures { λ r. ⌜ (numberOf (r .verdict) ≡ switchingRefusal g) × (r .run ≡ startedSwitchingRun g «breaker_id» «open») ⌝ }
-{
-    let verdict = check_switching(g);
-    if rules::number(verdict) == 0 {
-        return StartedSwitchingRun {
-            verdict,
-            run: SwitchingRun {
-                grid: g,
-                breaker_id,
-                open,
-                steps_made: 0,
-                variables: first_switching_variables(g, open),
-            },
-        };
-    }
-    StartedSwitchingRun {
-        verdict,
-        run: blank_switching_run(),
-    }
-}
-
-fn blank_switching_run() -> SwitchingRun
-    ensures { λ r. ⌜ r ≡ blankSwitchingRun ⌝ }
-{
-    SwitchingRun {
-        grid: blank_grid(),
-        breaker_id: 0,
-        open: false,
-        steps_made: 0,
-        variables: SwitchingVariables {
-            state: blank_state(),
-            switched: false,
-        },
-    }
 }
 
 // Rule 11.

@@ -8,7 +8,7 @@ use Rattle.float64.specs.Arithmetic.{_⊗_}
 use Rattle.grid.specs.declared.simulator.DcSwitchingSimulator.{DcSwitchingSimulator}
 use Rattle.timing.specs.Steps.{timeStepMs}
 use Rattle.network.specs.Network.{networkOf, noDrain}
-use Rattle.transient.proofs.Claims.{network-claims}
+use Rattle.step_claims.proofs.Claims.{network-claims}
 use Rattle.switching_step.specs.declared.variables.SwitchingVariables.{SwitchingVariables}
 use Rattle.switching_step.specs.Switching.{SwitchSetting, switchBody, switchSettingOf, switchingBody}
 use Rattle.switching_step.specs.Plans.{switchingPlanOf, switchSettingWith, switchingPlanStep}

@@ -1,4 +1,3 @@
 pub mod Stages
-pub mod Claims
 pub mod Tied
 mod Controls

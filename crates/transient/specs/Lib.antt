@@ -1,3 +1,2 @@
 pub mod Rk4
 pub mod OfGrid
-pub mod Claims

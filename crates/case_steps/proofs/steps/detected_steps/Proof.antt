@@ -1,6 +1,6 @@
 -- `detected_steps` meets its contract: the steps that are left lead from the variables, with a step detected, to where all of them lead. Assumes nothing.
 use lib.Ieee.{Float}
-use Rattle.fault_step.specs.declared.variables.FaultVariables.{FaultVariables}
+use Rattle.fault_plan.specs.declared.variables.FaultVariables.{FaultVariables}
 use Rattle.case_steps.specs.declared.open_case.OpenCase.{OpenCase}
 use Rattle.case_steps.specs.Plans.{planCaseStep, planCaseFrom}
 use Prim.Native.Nat.{suc, _+_, _-_}

@@ -2,7 +2,7 @@
 use Rattle.detection.specs.Detection.{detection}
 use Rattle.detection.proofs.Claims.{detection-claims}
 use Rattle.rules.specs.Studies.{detectionRefusal}
-use Rattle.rules.proofs.Sizes.{size-claims}
+use Rattle.rule_claims.proofs.Sizes.{size-claims}
 use Rattle.lists.proofs.Counting.{yes, no}
 use mathlib.Core.Path.{sym, _∙_}
 use borrow.Author.Needs.{needs}

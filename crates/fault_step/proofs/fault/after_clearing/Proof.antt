@@ -1,5 +1,5 @@
 -- `after_clearing` meets its contract. Assumes nothing.
-use Rattle.fault_step.specs.Fault.{afterClearing}
+use Rattle.fault_plan.specs.Fault.{afterClearing}
 use mathlib.Core.Path.{_∙_}
 use borrow.Author.Needs.{needs}
 use Rattle.fault_step.proofs.fault.after_clearing.Statement.{statement}

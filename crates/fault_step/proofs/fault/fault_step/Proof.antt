@@ -1,5 +1,5 @@
 -- `fault_step` meets its contract. Assumes nothing.
-use Rattle.fault_step.proofs.Phases.{waiting, cleared, faulted}
+use Rattle.fault_plan.proofs.Phases.{waiting, cleared, faulted}
 use mathlib.Core.Path.{sym, _∙_}
 use borrow.Author.Needs.{needs}
 use Rattle.fault_step.proofs.fault.fault_step.Statement.{statement}

@@ -1,5 +1,5 @@
 -- `while_faulted` meets its contract. Assumes nothing.
-use Rattle.fault_step.specs.Fault.{whileFaulted}
+use Rattle.fault_plan.specs.Fault.{whileFaulted}
 use Rattle.transient.specs.Rk4.{stepBy}
 use borrow.Author.Needs.{needs}
 use Rattle.fault_step.proofs.fault.while_faulted.Statement.{statement}

@@ -1,7 +1,7 @@
 -- `is_broken` meets its contract. Assumes nothing.
 use borrow.Author.Needs.{needs}
 use Rattle.rules.specs.Studies.{sweepRefusal}
-use Rattle.rules.proofs.Claims.{accepted-claims}
+use Rattle.rule_claims.proofs.Claims.{accepted-claims}
 use Rattle.timing.specs.Steps.{stepsOf}
 use Rattle.timing.proofs.Claims.{step-claims}
 use Rattle.fault_sweep.specs.Advance.{sweepBroken}

@@ -1,7 +1,7 @@
 -- `switching_run_refused` meets its contract. Assumes nothing.
 use Rattle.switching_runs.specs.SwitchingRuns.{switchingRunRefused}
 use Rattle.rules.specs.Studies.{switchingRefusal}
-use Rattle.rules.proofs.Claims.{accepted-claims}
+use Rattle.rule_claims.proofs.Claims.{accepted-claims}
 use Rattle.timing.specs.Steps.{stepsOf}
 use Rattle.timing.proofs.Claims.{step-claims}
 use borrow.Author.Tests.{eq-eqb, ne-eqb}

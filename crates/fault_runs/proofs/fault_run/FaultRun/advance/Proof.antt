@@ -2,8 +2,8 @@
 use Rattle.fault_runs.specs.FaultRuns.{faultStepper}
 use Rattle.runs.proofs.Turns.{Inside, inside, position, out-ok, leaves, counted-on, goes}
 use Rattle.fault_runs.proofs.FaultLoop.{faultKind, ready, by-plan, quietly, still, returned}
-use Rattle.fault_step.specs.Plans.{planStep}
-use Rattle.fault_step.specs.Quiet.{restsBy}
+use Rattle.fault_plan.specs.Plans.{planStep}
+use Rattle.fault_plan.specs.Quiet.{restsBy}
 use Rattle.portions.proofs.Loop.{came-refused}
 use Rattle.timing.specs.Steps.{mostSteps}
 use Rattle.lists.proofs.Counting.{contrary}

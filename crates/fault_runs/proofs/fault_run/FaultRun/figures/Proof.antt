@@ -1,7 +1,7 @@
 -- `figures` of a fault run meets its contract. Assumes nothing.
 use Rattle.runs.specs.declared.result.DcTransientResult.{DcTransientResult}
 use Rattle.fault_runs.specs.FaultRuns.{faultFigures, faultResults, figuresSoFar}
-use Rattle.fault_step.specs.declared.variables.FaultVariables.{FaultVariables}
+use Rattle.fault_plan.specs.declared.variables.FaultVariables.{FaultVariables}
 use Rattle.grid.specs.declared.simulator.DcSwitchingSimulator.{DcSwitchingSimulator}
 use Rattle.timing.specs.Steps.{durationMs, stepsOf, countedTo}
 use lib.Dec.{eqb}

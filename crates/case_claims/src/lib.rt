@@ -1,0 +1,1 @@
+// What is kept of an open case is what the published run has. There is no code in this crate.

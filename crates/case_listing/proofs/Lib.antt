@@ -1,0 +1,3 @@
+mod Places
+mod Listed
+pub mod Claims

@@ -1,0 +1,3 @@
+pub mod Claims
+mod Controls
+pub mod Tied

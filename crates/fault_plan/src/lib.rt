@@ -1,0 +1,14 @@
+// What a fault run works out once, its variables as before the loop in 000's simulate_fault, and its steps that change no array.
+mod plan;
+mod quiet;
+mod variables;
+
+pub use plan::FaultConstants;
+pub use plan::FaultPlan;
+pub use plan::fault_constants;
+pub use plan::fault_plan;
+pub use plan::first_fault_variables;
+pub use quiet::quiet_step;
+pub use quiet::rests;
+pub use quiet::waits;
+pub use variables::FaultVariables;

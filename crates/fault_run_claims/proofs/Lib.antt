@@ -1,0 +1,4 @@
+pub mod Claims
+pub mod Refusals
+pub mod Tied
+mod Controls

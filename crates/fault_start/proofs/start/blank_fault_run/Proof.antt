@@ -1,0 +1,18 @@
+-- `blank_fault_run` meets its contract. Assumes nothing.
+use Rattle.fault_runs.specs.FaultRuns.{blankFaultRun}
+use borrow.Author.Needs.{needs}
+use Rattle.fault_start.proofs.start.blank_fault_run.Statement.{statement}
+use Rattle.fault_start.proofs.start.blank_fault_run.Tie as tie
+
+blank-grid-requires : tie.Need-blank-grid-requires
+blank-grid-requires c κs = search needs
+
+blank-state-requires : tie.Need-blank-state-requires
+blank-state-requires c κs = search needs
+
+returns : tie.Need-returns
+unfolding blankFaultRun
+returns c = rw (c .blank-state .ensures, c .before .blank-grid .ensures)
+
+pub blank-fault-run-spec : {M : Type 1} → statement M
+blank-fault-run-spec = tie.close (tie.spec blank-grid-requires blank-state-requires returns)

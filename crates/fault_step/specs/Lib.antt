@@ -1,4 +1,0 @@
-pub mod Fault
-pub mod Plans
-pub mod Quiet
-pub mod Claims

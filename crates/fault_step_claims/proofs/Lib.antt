@@ -1,0 +1,4 @@
+mod Settings
+pub mod Claims
+pub mod Tied
+mod Controls

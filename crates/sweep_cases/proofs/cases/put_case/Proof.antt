@@ -1,0 +1,62 @@
+-- `put_case` meets its contract. Assumes nothing.
+use borrow.Author.Needs.{needs}
+use Rattle.fault_cases.specs.Cases.{placeOf}
+use Rattle.case_listing.specs.Listing.{rowFor}
+use Rattle.case_steps.specs.OpenCases.{outcomeIn}
+use Rattle.sweep_cases.specs.Plans.{lossIn}
+use Rattle.sweep_cases.proofs.Rows.{row-count, row-numbers}
+use Prim.Native.Nat.{_+_, _*_, _≤_}
+use mathlib.Core.Path.{ap, _∙_}
+use lib.ListN.{length}
+use lib.Seq.{sets}
+use Rattle.sweep_cases.proofs.cases.put_case.Statement.{statement}
+use Rattle.sweep_cases.proofs.cases.put_case.Tie as tie
+
+case-place-requires : tie.Need-case-place-requires
+case-place-requires c κs = search needs
+
+case-outcome-requires : tie.Need-case-outcome-requires
+case-outcome-requires c κs = search needs
+
+reasons-for-requires : tie.Need-reasons-for-requires
+reasons-for-requires c κs = search needs
+
+mul-put-row : tie.Need-mul-put-row
+mul-put-row c = search needs
+
+loss-of-requires : tie.Need-loss-of-requires
+loss-of-requires c κs = search needs
+
+put-row-requires : tie.Need-put-row-requires
+put-row-requires c κs = search needs
+
+same-length : tie.Need-same-length
+same-length c = search needs
+
+returns : tie.Need-returns
+unfolding rowFor
+returns c =
+    let p = c .before .before in
+    let f = p .before in
+    let r = f .before .before in
+    let x = r .before in
+    let k = x .before in
+    let a = k .before .before .args in
+    let q = p .put-row .ensures in
+    let room : 8 * a .out + 8 ≤ length (a .rows .now) = k .before .before .pre in (
+      q .0 ∙ rw (r .reasons-for .ensures, x .case-outcome .ensures, k .case-place .ensures) (row-count (placeOf (a .order) (a .k)) _ (outcomeIn (a .c)) (lossIn (a .flow) (placeOf (a .order) (a .k) .cable)) (8 * a .out) (length (a .rows .now)) room),
+      q .1 ∙ rw (f .loss-of .ensures, r .reasons-for .ensures, x .case-outcome .ensures, k .case-place .ensures) (ap (sets (a .rows .now) (8 * a .out)) (row-numbers (placeOf (a .order) (a .k)) _ (outcomeIn (a .c)) (lossIn (a .flow) (placeOf (a .order) (a .k) .cable)) (8 * a .out) (length (a .rows .now)) room)),
+    )
+
+pub put-case-spec : {M : Type 1} → statement M
+put-case-spec =
+    tie.close
+    (tie.spec
+    case-place-requires
+    case-outcome-requires
+    reasons-for-requires
+    mul-put-row
+    loss-of-requires
+    put-row-requires
+    same-length
+    returns)

@@ -1,0 +1,25 @@
+-- What an advance works out once, for all cases and for one. Definitions only.
+use Prim.Native.Nat.{ℕ}
+use lib.ListN.{getD}
+use lib.Ieee.{Float}
+use Rattle.float64.specs.Constants.{nought}
+use Rattle.grid.specs.declared.parts.SweepOrder.{SweepOrder}
+use Rattle.grid.specs.declared.simulator.DcSwitchingSimulator.{DcSwitchingSimulator}
+use Rattle.network.specs.Network.{networkOf}
+use Rattle.run_start.specs.Start.{ratedOf}
+use Rattle.power_flow.specs.declared.flow.DcGridSolution.{DcGridSolution}
+use Rattle.fault_plan.specs.declared.plan.FaultPlan.{FaultPlan}
+use Rattle.fault_plan.specs.Plans.{constantsOf}
+use Rattle.fault_cases.specs.Cases.{faultOf}
+use Rattle.sweep_cases.specs.declared.cases.Common.{Common}
+
+unfoldable pub commonOf : DcSwitchingSimulator → SweepOrder → Common
+commonOf g o = record { grid = g; order = o; network = networkOf g; «rated_kv» = ratedOf g }
+
+-- the plan of case k
+abbrev pub planFor : Common → ℕ → FaultPlan
+planFor x k = record { constants = constantsOf (x .grid) (faultOf (x .order) k); network = x .network; «rated_kv» = x .«rated_kv» }
+
+-- the flow's loss in a cable
+abbrev pub lossIn : DcGridSolution → ℕ → Float
+lossIn flow cable = getD (flow .«cable_losses_mw») cable nought

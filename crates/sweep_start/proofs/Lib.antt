@@ -1,0 +1,4 @@
+mod Accepted
+mod Fresh
+pub mod Tied
+mod Controls
