@@ -140,7 +140,7 @@ bad-more bad k [] l = let n : k + 1 ≡ k + 0 + 1 = omega arith in ap (λ m. con
 bad-more bad k (x ∷ p) l = go (bad x) (bad-more bad (k + 1) p l)
   where
     go : (t : Bool) → firstBad bad (k + 1) (p ++ (l ∷ [])) ≡ firstOf (firstBad bad (k + 1) p) (bad l) (k + 1 + length p + 1)
-      → cond t (k + 1) (firstBad bad (k + 1) (p ++ (l ∷ []))) ≡ firstOf (cond t (k + 1) (firstBad bad (k + 1) p)) (bad l) (k + length (x ∷ p) + 1)
+        → cond t (k + 1) (firstBad bad (k + 1) (p ++ (l ∷ []))) ≡ firstOf (cond t (k + 1) (firstBad bad (k + 1) p)) (bad l) (k + length (x ∷ p) + 1)
     go true h = sym (firstOf-kept (k + 1) (bad l) (k + length (x ∷ p) + 1) (λ e. omega arith))
     go false h =
         let n : k + 1 + length p + 1 ≡ k + length (x ∷ p) + 1 = omega arith in
@@ -169,7 +169,7 @@ unfolding gridIn
 grid-is p = refl
 
 grid-more : (p : List SheetLine) (l : SheetLine)
-  → gridWith (stationsIn p ++ stationsIn (l ∷ [])) (cablesIn p ++ cablesIn (l ∷ [])) (breakersIn p ++ breakersIn (l ∷ [])) (newFrom (newFrom unmade p) (l ∷ [])) ≡ gridIn (p ++ (l ∷ []))
+    → gridWith (stationsIn p ++ stationsIn (l ∷ [])) (cablesIn p ++ cablesIn (l ∷ [])) (breakersIn p ++ breakersIn (l ∷ [])) (newFrom (newFrom unmade p) (l ∷ [])) ≡ gridIn (p ++ (l ∷ []))
 grid-more p l =
     sym
     (grid-is (p ++ (l ∷ []))
@@ -201,7 +201,7 @@ module _ (xs : List ConverterStation) (cs : List DcCable) (bs : List DcBreaker) 
 -- ---- the sheet of lines and one more
 
 same : {g g' : DcSwitchingSimulator} {o o' : SweepOrder} {n n' m m' x x' y y' z z' : ℕ} → g ≡ g' → o ≡ o' → n ≡ n' → m ≡ m' → x ≡ x' → y ≡ y' → z ≡ z'
-  → _≡_ {A = Sheet}
+    → _≡_ {A = Sheet}
     record { grid = g; order = o; lines = n; last = m; «bad_station» = x; «bad_cable» = y; «bad_breaker» = z; refusal = 0 }
     record { grid = g'; order = o'; lines = n'; last = m'; «bad_station» = x'; «bad_cable» = y'; «bad_breaker» = z'; refusal = 0 }
 same a b c d e f h = rw (a, b, c, d, e, f, h)

@@ -24,7 +24,7 @@ module _ (r : Reading) (b : ℕ) (going : stoppedIn r ≡ false) where
   kept-way h k = rw (going, lt-ltb (r .length) longest h, ne-eqb b 10 k)
 
   pub line-way : r .length < longest → b ≡ 10 → (s : Sheet) → s ≡ withLine (r .sheet) (lineOf (take (r .length + 1) (set (r .line) (r .length) b)))
-    → record { sheet = s; line = set (r .line) (r .length) b; length = 0 } ≡ byteTaken r b
+      → record { sheet = s; line = set (r .line) (r .length) b; length = 0 } ≡ byteTaken r b
   unfolding byteTaken
   line-way h k s e = rw (going, lt-ltb (r .length) longest h, eq-eqb b 10 k, e)
 

@@ -104,8 +104,8 @@ unfolding ruleBroken sheetBroken contentsOf
 ruled p rule = go (eqb rule 6) (eqb rule 7) (eqb rule 8) refl refl refl
   where
     go : (x y z : Bool) → eqb rule 6 ≡ x → eqb rule 7 ≡ y → eqb rule 8 ≡ z
-      → (broken (gridIn p) (not (orderOk (orderIn p))) rule || cond x (not (eqb (firstBad badStation 0 p) 0)) (cond y (not (eqb (firstBad badCable 0 p) 0)) (cond z (not (eqb (firstBad badBreaker 0 p) 0)) false)))
-      ≡ cond x (not (eqb (firstBad badStation 0 p) 0)) (cond y (not (eqb (firstBad badCable 0 p) 0)) (cond z (not (eqb (firstBad badBreaker 0 p) 0)) (broken (gridIn p) (not (orderOk (orderIn p))) rule)))
+        → (broken (gridIn p) (not (orderOk (orderIn p))) rule || cond x (not (eqb (firstBad badStation 0 p) 0)) (cond y (not (eqb (firstBad badCable 0 p) 0)) (cond z (not (eqb (firstBad badBreaker 0 p) 0)) false)))
+        ≡ cond x (not (eqb (firstBad badStation 0 p) 0)) (cond y (not (eqb (firstBad badCable 0 p) 0)) (cond z (not (eqb (firstBad badBreaker 0 p) 0)) (broken (gridIn p) (not (orderOk (orderIn p))) rule)))
     go true y z a b c = absorbed (broken (gridIn p) (not (orderOk (orderIn p))) rule) (not (eqb (firstBad badStation 0 p) 0)) (λ h. ap (broken (gridIn p) (not (orderOk (orderIn p)))) (eqb-true rule 6 a) ∙ six p (not (orderOk (orderIn p))) h)
     go false true z a b c = absorbed (broken (gridIn p) (not (orderOk (orderIn p))) rule) (not (eqb (firstBad badCable 0 p) 0)) (λ h. ap (broken (gridIn p) (not (orderOk (orderIn p)))) (eqb-true rule 7 b) ∙ seven p (not (orderOk (orderIn p))) h)
     go false false true a b c = absorbed (broken (gridIn p) (not (orderOk (orderIn p))) rule) (not (eqb (firstBad badBreaker 0 p) 0)) (λ h. ap (broken (gridIn p) (not (orderOk (orderIn p)))) (eqb-true rule 8 c) ∙ eight p (not (orderOk (orderIn p))) h)
@@ -144,8 +144,8 @@ unfolding refusalIn contentsOf
 end-refusal p = go (ltb (length p) 2) refl
   where
     go : (t : Bool) → ltb (length p) 2 ≡ t
-      → cond t (refused 13 (countedOn (length p))) (refused (ruleRefusal (contentsOf p)) (ruleLine (contentsOf p) (ruleRefusal (contentsOf p))))
-      ≡ judgedBy (cond t (refused 13 (length p + 1)) none) p
+        → cond t (refused 13 (countedOn (length p))) (refused (ruleRefusal (contentsOf p)) (ruleLine (contentsOf p) (ruleRefusal (contentsOf p))))
+        ≡ judgedBy (cond t (refused 13 (length p + 1)) none) p
     go true e = let h : length p < 2 = ltb-true (length p) 2 e in ap (refused 13) (counted (length p) (omega arith))
     go false e = ap (λ r. refused r (ruleLine (contentsOf p) r)) (rule-is p) ∙ ap (refused (ruleOf p)) (line-is p (ruleOf p))
 
@@ -187,7 +187,7 @@ unfolding answered
 no-grid r n z g g' o o' = rw (ne-eqb r 0 z)
 
 refused-answer : (p : List SheetLine) (r : ℕ) → length p < mostLines → (r ≡ 0 → ⊥) → (g : DcSwitchingSimulator) (o : SweepOrder) (ls : List SheetLine)
-  → answerTo (refusedBy (contentsOf p) r) ≡ answered (judgedBy (refused r (length p + 1)) ls) g o
+    → answerTo (refusedBy (contentsOf p) r) ≡ answered (judgedBy (refused r (length p + 1)) ls) g o
 refused-answer p r h z g o ls =
     ap (λ f. answered f (contentsOf p .grid) (contentsOf p .order)) (refused-is p r h z)
     ∙ no-grid r (length p + 1) z (contentsOf p .grid) g (contentsOf p .order) o
@@ -202,7 +202,7 @@ taken-is p l h z =
     ∙ contents-more p h l z
 
 line-refused-is : (p : List SheetLine) (l : SheetLine) → length p < mostLines → (lineRefusal (length p) (lastPlace 0 p) (placeOf l) ≡ 0 → ⊥)
-  → withLine (contentsOf p) l ≡ refusedBy (contentsOf p) (lineRefusal (length p) (lastPlace 0 p) (placeOf l))
+    → withLine (contentsOf p) l ≡ refusedBy (contentsOf p) (lineRefusal (length p) (lastPlace 0 p) (placeOf l))
 unfolding contentsOf
 line-refused-is p l h z = sym (refused-way (contentsOf p) l (going p h) (placeOf l) refl (lineRefusal (length p) (lastPlace 0 p) (placeOf l)) refl z)
 
@@ -222,18 +222,22 @@ judged (l ∷ ls) p (suc k) e = step (eqb r 0) refl (judged ls (p ++ (l ∷ []))
   where
     r : ℕ
     r = lineRefusal (length p) (lastPlace 0 p) (placeOf l)
+
     h : length p < mostLines
     h = omega arith
+
     q : List SheetLine
     q = take k ls
+
     joined : target (p ++ (l ∷ [])) q ≡ answered (judgedBy (formRefusal (length p + 1) (placeOf l) q) (p ++ (l ∷ q))) (gridIn (p ++ (l ∷ q))) (orderIn (p ++ (l ∷ q)))
     joined =
         ap (λ n. answerAt n (lastPlace 0 (p ++ (l ∷ []))) q ((p ++ (l ∷ [])) ++ q)) (length-append p (l ∷ []))
         ∙ ap (λ m. answerAt (length p + 1) m q ((p ++ (l ∷ [])) ++ q)) (last-is 0 p l)
         ∙ ap (answerAt (length p + 1) (placeOf l) q) (append-assoc p (l ∷ []) q)
+
     step : (t : Bool) → eqb r 0 ≡ t → answerTo (foldl withLine (contentsOf (p ++ (l ∷ []))) ls) ≡ target (p ++ (l ∷ [])) q
-      → answerTo (foldl withLine (withLine (contentsOf p) l) ls)
-      ≡ answered (judgedBy (cond t (formRefusal (length p + 1) (placeOf l) q) (refused r (length p + 1))) (p ++ (l ∷ q))) (gridIn (p ++ (l ∷ q))) (orderIn (p ++ (l ∷ q)))
+        → answerTo (foldl withLine (withLine (contentsOf p) l) ls)
+        ≡ answered (judgedBy (cond t (formRefusal (length p + 1) (placeOf l) q) (refused r (length p + 1))) (p ++ (l ∷ q))) (gridIn (p ++ (l ∷ q))) (orderIn (p ++ (l ∷ q)))
     step true z ih = ap (λ s. answerTo (foldl withLine s ls)) (taken-is p l h (eqb-true r 0 z)) ∙ ih ∙ joined
     step false z ih =
         ap (λ s. answerTo (foldl withLine s ls)) (line-refused-is p l h (nonzero r z))

@@ -20,7 +20,7 @@ use Rattle.sheet.specs.declared.taken.Sheet.{Sheet}
 
 module _ (s : Sheet) (l : SheetLine) where
   pub times-way : (dt duration : Float) → l ≡ Times dt duration → (g : DcSwitchingSimulator) → g ≡ newSimulator dt duration
-    → holding s g (s .order) (s .«bad_station») (s .«bad_cable») (s .«bad_breaker») ≡ contentsWith s l
+      → holding s g (s .order) (s .«bad_station») (s .«bad_cable») (s .«bad_breaker») ≡ contentsWith s l
   unfolding contentsWith
   times-way dt duration e g p = rw (e, p)
 
@@ -29,20 +29,20 @@ module _ (s : Sheet) (l : SheetLine) where
   order-way o e = rw e
 
   pub station-way : (x : ConverterStation) (known : Bool) → l ≡ Station x known → (ok : Bool) → ok ≡ stationOk x → (g : DcSwitchingSimulator) → g ≡ stationTaken (s .grid) x
-    → (n : ℕ) → n ≡ countedOn (s .lines) → (b : ℕ) → b ≡ firstOf (s .«bad_station») (not (known && ok)) n
-    → holding s g (s .order) b (s .«bad_cable») (s .«bad_breaker») ≡ contentsWith s l
+      → (n : ℕ) → n ≡ countedOn (s .lines) → (b : ℕ) → b ≡ firstOf (s .«bad_station») (not (known && ok)) n
+      → holding s g (s .order) b (s .«bad_cable») (s .«bad_breaker») ≡ contentsWith s l
   unfolding contentsWith
   station-way x known e ok k g p n q b f = rw (e, p, f, k, q)
 
   pub cable-way : (x : DcCable) → l ≡ Cable x → (ok : Bool) → ok ≡ cableOk x → (g : DcSwitchingSimulator) → g ≡ cableTaken (s .grid) x
-    → (n : ℕ) → n ≡ countedOn (s .lines) → (b : ℕ) → b ≡ firstOf (s .«bad_cable») (not ok) n
-    → holding s g (s .order) (s .«bad_station») b (s .«bad_breaker») ≡ contentsWith s l
+      → (n : ℕ) → n ≡ countedOn (s .lines) → (b : ℕ) → b ≡ firstOf (s .«bad_cable») (not ok) n
+      → holding s g (s .order) (s .«bad_station») b (s .«bad_breaker») ≡ contentsWith s l
   unfolding contentsWith
   cable-way x e ok k g p n q b f = rw (e, p, f, k, q)
 
   pub breaker-way : (x : DcBreaker) (known : Bool) → l ≡ Breaker x known → (ok : Bool) → ok ≡ breakerOk x → (g : DcSwitchingSimulator) → g ≡ breakerTaken (s .grid) x
-    → (n : ℕ) → n ≡ countedOn (s .lines) → (b : ℕ) → b ≡ firstOf (s .«bad_breaker») (not (known && ok)) n
-    → holding s g (s .order) (s .«bad_station») (s .«bad_cable») b ≡ contentsWith s l
+      → (n : ℕ) → n ≡ countedOn (s .lines) → (b : ℕ) → b ≡ firstOf (s .«bad_breaker») (not (known && ok)) n
+      → holding s g (s .order) (s .«bad_station») (s .«bad_cable») b ≡ contentsWith s l
   unfolding contentsWith
   breaker-way x known e ok k g p n q b f = rw (e, p, f, k, q)
 
@@ -55,7 +55,7 @@ module _ (s : Sheet) (l : SheetLine) where
   stopped-way h = rw h
 
   pub taken-way : stoppedAt s ≡ false → (place : ℕ) → place ≡ placeOf l → (r : ℕ) → r ≡ lineRefusal (s .lines) (s .last) place → r ≡ 0
-    → (t : Sheet) → t ≡ contentsWith s l → (n : ℕ) → n ≡ countedOn (s .lines) → movedOn t n place ≡ withLine s l
+      → (t : Sheet) → t ≡ contentsWith s l → (n : ℕ) → n ≡ countedOn (s .lines) → movedOn t n place ≡ withLine s l
   unfolding withLine
   taken-way h place p r q z t e n k = rw (h, ← p, ← q, z, e, k)
 

@@ -129,10 +129,13 @@ module _ (b : ℕ) (bs : List ℕ) (ih : Rest bs) (r : Reading) (g : stoppedIn r
     where
       t : Reading
       t = lineTaken r b
+
       taken : (x : List ℕ) → Sheet
       taken x = withLine (r .sheet) (lineOf x)
+
       begun : endedOf (foldl byteTaken (byteTaken r b) bs) ≡ endedOf (foldl byteTaken t bs)
       begun = ap (λ x. endedOf (foldl byteTaken x bs)) (sym (line-way r b g i e (t .sheet) refl))
+
       go : (s : Bool) → stoppedAt (t .sheet) ≡ s → goal ((b ∷ []) ∷ linesOf bs)
       go true h =
           begun

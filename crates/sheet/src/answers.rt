@@ -2,11 +2,11 @@
 ghost use mathlib.Core.Path.{_≡_};
 ghost use Rattle.sheet.specs.Answers.{lineRule, ruleLine, ruleRefusal, refusalIn, answerOf};
 ghost use Rattle.sheet.specs.Sheets.{sheetAnswer};
-use crate::parts::counted_on;
 use crate::bytes::Reading;
 use crate::bytes::ended;
 use crate::bytes::feed;
 use crate::bytes::start;
+use crate::parts::counted_on;
 use crate::taken::Sheet;
 use crate::taken::empty_sheet;
 use grid::DcSwitchingSimulator;
@@ -111,12 +111,20 @@ pub fn answer(r: Reading) -> SheetAnswer
     if refusal.number == 0 {
         let grid = sheet.grid;
         let order = sheet.order;
-        return SheetAnswer { refusal, grid, order };
+        return SheetAnswer {
+            refusal,
+            grid,
+            order,
+        };
     }
     let empty = empty_sheet();
     let grid = empty.grid;
     let order = empty.order;
-    SheetAnswer { refusal, grid, order }
+    SheetAnswer {
+        refusal,
+        grid,
+        order,
+    }
 }
 
 // The answer to a whole sheet.

@@ -60,7 +60,11 @@ pub fn feed(r: Reading, piece: &[u8]) -> Reading
                 sheet = with_line(sheet, line_of(&line[..length]));
                 length = 0;
                 if has_stopped(sheet) {
-                    return Reading { sheet, line, length };
+                    return Reading {
+                        sheet,
+                        line,
+                        length,
+                    };
                 }
             }
         } else {
@@ -71,7 +75,11 @@ pub fn feed(r: Reading, piece: &[u8]) -> Reading
             };
         }
     }
-    Reading { sheet, line, length }
+    Reading {
+        sheet,
+        line,
+        length,
+    }
 }
 
 // The sheet at the end of the input. A line that has not ended is of wrong form.

@@ -1,7 +1,7 @@
 // A sheet, in pieces as they arrive: its grid and its order, or the number and the line of what is wrong with it.
 mod answers;
-mod parts;
 mod bytes;
+mod parts;
 mod taken;
 
 pub use answers::Refusal;

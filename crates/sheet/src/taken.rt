@@ -60,11 +60,20 @@ fn place_of(line: SheetLine) -> usize
     ensures { λ r. ⌜ r ≡ placeOf line ⌝ }
 {
     match line {
-        SheetLine::Times { dt_us: _, duration_ms: _ } => 0,
+        SheetLine::Times {
+            dt_us: _,
+            duration_ms: _,
+        } => 0,
         SheetLine::Order(_) => 1,
-        SheetLine::Station { station: _, known: _ } => 2,
+        SheetLine::Station {
+            station: _,
+            known: _,
+        } => 2,
         SheetLine::Cable(_) => 3,
-        SheetLine::Breaker { breaker: _, known: _ } => 4,
+        SheetLine::Breaker {
+            breaker: _,
+            known: _,
+        } => 4,
         SheetLine::Wrong => 5,
     }
 }

@@ -27,6 +27,6 @@ module _ (line : List ℕ) where
   station-right e s p t n q r = rw (e, p, q, r)
 
   pub breaker-right : formed line breakerForm ≡ true → (b : DcBreaker) → b ≡ breakerIn line → (kind : ℕ) (second : Float) → kind ≡ whole line 2 → second ≡ real line 4
-    → Breaker b (leb kind 2 && (eq second nought || not (eqb kind 0))) ≡ breakerLine line
+      → Breaker b (leb kind 2 && (eq second nought || not (eqb kind 0))) ≡ breakerLine line
   unfolding breakerLine
   breaker-right e b p kind second q r = rw (e, p, q, r)

@@ -15,23 +15,58 @@ use grid::SweepOrder;
 // What a line says; one of wrong form says nothing. A station is known if its topology is one of the four and its submodules are 0
 // or an MMC's, a breaker if its kind is one of the three and it is not a mechanical one with a second number: rules 6 and 8 refuse others.
 pub enum SheetLine {
-    Times { dt_us: f64, duration_ms: f64 },
+    Times {
+        dt_us: f64,
+        duration_ms: f64,
+    },
     Order(SweepOrder),
     Station {
         station: ConverterStation,
         known: bool,
     },
     Cable(DcCable),
-    Breaker { breaker: DcBreaker, known: bool },
+    Breaker {
+        breaker: DcBreaker,
+        known: bool,
+    },
     Wrong,
 }
 
 // The forms of the five lines.
-const TIMES: Form = Form { first_whole: 0, wholes: 0, first_real: 0, reals: 2 };
-const ORDER: Form = Form { first_whole: 2, wholes: 2, first_real: 0, reals: 2 };
-const STATION: Form = Form { first_whole: 0, wholes: 3, first_real: 3, reals: 8 };
-const CABLE: Form = Form { first_whole: 0, wholes: 3, first_real: 3, reals: 4 };
-const BREAKER: Form = Form { first_whole: 0, wholes: 3, first_real: 3, reals: 4 };
+const TIMES: Form = Form {
+    first_whole: 0,
+    wholes: 0,
+    first_real: 0,
+    reals: 2,
+};
+
+const ORDER: Form = Form {
+    first_whole: 2,
+    wholes: 2,
+    first_real: 0,
+    reals: 2,
+};
+
+const STATION: Form = Form {
+    first_whole: 0,
+    wholes: 3,
+    first_real: 3,
+    reals: 8,
+};
+
+const CABLE: Form = Form {
+    first_whole: 0,
+    wholes: 3,
+    first_real: 3,
+    reals: 4,
+};
+
+const BREAKER: Form = Form {
+    first_whole: 0,
+    wholes: 3,
+    first_real: 3,
+    reals: 4,
+};
 
 // T: time step, duration.
 fn times_line(line: &[u8]) -> SheetLine
@@ -67,7 +102,9 @@ fn topology_of(topology: u64, submodules: u64) -> ConverterTopology
 {
     match topology {
         1 => ConverterTopology::TwoLevelVsc,
-        2 => ConverterTopology::Mmc { n_submodules: submodules },
+        2 => ConverterTopology::Mmc {
+            n_submodules: submodules,
+        },
         3 => ConverterTopology::Hybrid,
         _ => ConverterTopology::Lcc,
     }
@@ -129,7 +166,9 @@ fn breaker_type_of(kind: u64, time: f64, second: f64) -> DcBreakerType
             opening_time_ms: time,
             commutation_time_us: second,
         },
-        _ => DcBreakerType::Mechanical { opening_time_ms: time },
+        _ => DcBreakerType::Mechanical {
+            opening_time_ms: time,
+        },
     }
 }
 

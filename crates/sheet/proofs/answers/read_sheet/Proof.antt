@@ -18,7 +18,7 @@ answer-requires : tie.Need-answer-requires
 answer-requires c κs = search needs
 
 returns : tie.Need-returns
-returns c = 
+returns c =
     let text = c .before .before .before .before .args .text .now in
     c .answer .ensures ∙ ap answerOf (c .before .feed .ensures ∙ ap (λ r. foldl byteTaken r text) (c .before .before .start .ensures)) ∙ whole text
 

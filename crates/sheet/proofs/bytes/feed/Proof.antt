@@ -84,11 +84,12 @@ loop-less c = omega arith
 loop-again : tie.Need-loop-again Inv-loop μ-loop
 loop-again c =
     let l = c .before .before .before .before .before .before .before .before .before .loop in
-    let a = c .before .before .before .before .before .before .before .before .before .before .before .before .before .before .before .args in
-    ( omega arith
-    , on _ _ _ (a .piece .now) (l .i) (omega arith) (l .inv .1) (line-way (record { sheet = l .sheet; line = l .line; length = l .length }) _ (l .inv .2) (omega arith) (c .before .before .before .before .before .if3 .taken) _ (taken (c .before .before)))
-    , sym (c .before .has-stopped2 .ensures) ∙ c .if4 .left
-    , length-set (l .line) (l .length) _ ∙ l .inv .3)
+    let a = c .before .before .before .before .before .before .before .before .before .before .before .before .before .before .before .args in (
+      omega arith,
+      on _ _ _ (a .piece .now) (l .i) (omega arith) (l .inv .1) (line-way (record { sheet = l .sheet; line = l .line; length = l .length }) _ (l .inv .2) (omega arith) (c .before .before .before .before .before .if3 .taken) _ (taken (c .before .before))),
+      sym (c .before .has-stopped2 .ensures) ∙ c .if4 .left,
+      length-set (l .line) (l .length) _ ∙ l .inv .3,
+    )
 
 loop-less-2 : tie.Need-loop-less-2 Inv-loop μ-loop
 loop-less-2 c = omega arith

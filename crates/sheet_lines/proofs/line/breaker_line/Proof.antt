@@ -34,7 +34,7 @@ real-requires-4 : tie.Need-real-requires-4
 real-requires-4 c κs = search needs
 
 returns : tie.Need-returns
-returns c = 
+returns c =
     let k = c .before .before .before .before .before .before .before .whole .ensures in
     let x = c .before .before .before .before .before .before .real .ensures in
     breaker-right

@@ -46,7 +46,7 @@ real-requires-8 : tie.Need-real-requires-8
 real-requires-8 c κs = search needs
 
 returns : tie.Need-returns
-returns c = 
+returns c =
     let w = c .before .before .before .before .before .before .before .before .before .before .before .whole .ensures in
     let n = c .before .before .before .before .before .before .before .before .before .before .whole2 .ensures in
     station-right
