@@ -99,7 +99,7 @@ or-none : (b : Bool) → (b || false) ≡ b
 or-none true = refl
 or-none false = refl
 
-ruled : (p : List SheetLine) (rule : ℕ) → ruleBroken (contentsOf p) rule ≡ sheetBroken p rule
+pub ruled : (p : List SheetLine) (rule : ℕ) → ruleBroken (contentsOf p) rule ≡ sheetBroken p rule
 unfolding ruleBroken sheetBroken contentsOf
 ruled p rule = go (eqb rule 6) (eqb rule 7) (eqb rule 8) refl refl refl
   where

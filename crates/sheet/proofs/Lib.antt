@@ -6,3 +6,6 @@ mod Laid
 mod Contents
 mod Judged
 pub mod Whole
+pub mod Claims
+pub mod Tied
+mod Controls

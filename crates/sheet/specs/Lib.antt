@@ -3,3 +3,4 @@ pub mod Sheets
 pub mod Taken
 pub mod Bytes
 pub mod Answers
+pub mod Claims

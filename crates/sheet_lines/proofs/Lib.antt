@@ -1,2 +1,4 @@
 mod Right
 pub mod WrongLines
+pub mod Tied
+mod Controls
