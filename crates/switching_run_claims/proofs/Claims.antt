@@ -7,7 +7,7 @@ use Rattle.grid.specs.declared.simulator.DcSwitchingSimulator.{DcSwitchingSimul
 use Rattle.timing.specs.Steps.{stepsOf}
 use Rattle.rules.specs.Studies.{switchingRefusal, first, broken, tooManyParts}
 use Rattle.portions.specs.Calls.{Chain}
-use Rattle.switching_step.specs.Switching.{switchingBody, switchingAfter}
+use Rattle.switching_plan.specs.Switching.{switchingBody, switchingAfter}
 use Rattle.runs.specs.Runs.{Calls, InPortions}
 use Rattle.runs.proofs.Portions.{in-portions}
 use Rattle.switching_runs.specs.SwitchingRuns.{switchingRunRefused, switchingStepper, switchingRunAfter, startedSwitchingRun, blankSwitchingRun, switchingResults}

@@ -2,13 +2,13 @@
 use native.Mathlib.Omega.{arith}
 use mathlib.Core.Path.{_∙_}
 use Rattle.lists.specs.Tables.{blank}
-use Rattle.switching_step.specs.Switching.{beforeSwitching}
+use Rattle.switching_plan.specs.Switching.{beforeSwitching}
 use Rattle.run_start.specs.Start.{ratedOf}
 use borrow.Author.Needs.{needs}
-use Rattle.switching_step.proofs.plan.first_switching_variables.Statement.{
+use Rattle.switching_plan.proofs.plan.first_switching_variables.Statement.{
   statement,
 }
-use Rattle.switching_step.proofs.plan.first_switching_variables.Tie as tie
+use Rattle.switching_plan.proofs.plan.first_switching_variables.Tie as tie
 
 present-requires : tie.Need-present-requires
 present-requires c κs = search needs

@@ -13,8 +13,8 @@ use Rattle.network.specs.Capacitance.{ownCapacitance, joinedCapacitance}
 use Rattle.state_derivatives.specs.Derivatives.{derivatives}
 use Rattle.transient.specs.Rk4.{ahead, blended, rk4, raised, newState, stepBy}
 use Rattle.run_start.proofs.Samples.{double, state, stepped, station, cable, breaker, two}
-use Rattle.switching_step.specs.declared.variables.SwitchingVariables.{SwitchingVariables}
-use Rattle.switching_step.specs.Switching.{SwitchSetting, isOperated, breakersAfter, interrupted, operatedState, switchBody, switchSettingOf, switchingBody, beforeSwitching, switchingAfter}
+use Rattle.switching_plan.specs.declared.variables.SwitchingVariables.{SwitchingVariables}
+use Rattle.switching_plan.specs.Switching.{SwitchSetting, isOperated, breakersAfter, interrupted, operatedState, switchBody, switchSettingOf, switchingBody, beforeSwitching, switchingAfter}
 
 -- of 3 breakers: below the count, at it and past it
 operated-are

@@ -9,10 +9,10 @@ use Rattle.grid.specs.declared.simulator.DcSwitchingSimulator.{DcSwitchingSimul
 use Rattle.timing.specs.Steps.{timeStepMs}
 use Rattle.network.specs.Network.{networkOf, noDrain}
 use Rattle.step_claims.proofs.Claims.{network-claims}
-use Rattle.switching_step.specs.declared.variables.SwitchingVariables.{SwitchingVariables}
-use Rattle.switching_step.specs.Switching.{SwitchSetting, switchBody, switchSettingOf, switchingBody}
-use Rattle.switching_step.specs.Plans.{switchingPlanOf, switchSettingWith, switchingPlanStep}
-use Rattle.switching_step.specs.Claims.{PlanClaims}
+use Rattle.switching_plan.specs.declared.variables.SwitchingVariables.{SwitchingVariables}
+use Rattle.switching_plan.specs.Switching.{SwitchSetting, switchBody, switchSettingOf, switchingBody}
+use Rattle.switching_plan.specs.Plans.{switchingPlanOf, switchSettingWith, switchingPlanStep}
+use Rattle.switching_step_claims.specs.Claims.{PlanClaims}
 
 all-of-them : (n m : ℕ) → n ≤ m → min (min n m) m ≡ n
 all-of-them n m h = omega arith

@@ -1,5 +1,5 @@
 -- `drive_currents` meets its contract. Assumes nothing.
-use Rattle.switching_step.specs.Switching.{drivenCurrent, driven}
+use Rattle.switching_plan.specs.Switching.{drivenCurrent, driven}
 use Rattle.grid.specs.declared.parts.DcCable.{DcCable}
 use Rattle.grid.specs.Simulator.{blankCable}
 use Rattle.float64.specs.Constants.{nought}
@@ -13,8 +13,8 @@ use native.Mathlib.Omega.{arith}
 use Prim.Native.Nat.{_+_, _-_, _≤_}
 use mathlib.Core.Path.{_≡_, sym, ap, _∙_}
 use borrow.Author.Needs.{needs}
-use Rattle.switching_step.proofs.plan.drive_currents.Statement.{statement}
-use Rattle.switching_step.proofs.plan.drive_currents.Tie as tie
+use Rattle.switching_plan.proofs.plan.drive_currents.Statement.{statement}
+use Rattle.switching_plan.proofs.plan.drive_currents.Tie as tie
 
 abbrev Inv-loop : tie.InvT-loop
 Inv-loop y₀ stations n m cables i₀ y i = (n ≤ i) × (i ≤ n + m) × (y ≡ upto i (driven stations cables n) (blank 96 nought))

@@ -8,10 +8,10 @@ use Rattle.grid.specs.declared.simulator.DcSwitchingSimulator.{DcSwitchingSimul
 use Rattle.timing.specs.Steps.{timeStepMs, durationMs}
 use Rattle.network.specs.Network.{networkOf, noDrain, stationCount, cableCount}
 use Rattle.transient.specs.Rk4.{rk4Step}
-use Rattle.switching_step.specs.declared.variables.SwitchingVariables.{SwitchingVariables}
-use Rattle.switching_step.specs.declared.plan.SwitchingPlan.{SwitchingPlan}
-use Rattle.switching_step.specs.Constants.{switchingPart}
-use Rattle.switching_step.specs.Switching.{SwitchSetting, switchBody}
+use Rattle.switching_plan.specs.declared.variables.SwitchingVariables.{SwitchingVariables}
+use Rattle.switching_plan.specs.declared.plan.SwitchingPlan.{SwitchingPlan}
+use Rattle.switching_plan.specs.Constants.{switchingPart}
+use Rattle.switching_plan.specs.Switching.{SwitchSetting, switchBody}
 
 unfoldable pub switchingPlanOf : DcSwitchingSimulator → ℕ → Bool → SwitchingPlan
 switchingPlanOf g number opens =

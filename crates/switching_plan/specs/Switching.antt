@@ -17,8 +17,8 @@ use Rattle.timing.specs.Steps.{timeStepMs, durationMs}
 use Rattle.network.specs.Network.{noDrain, stationCount, cableCount}
 use Rattle.state_derivatives.specs.declared.state.DcTransientState.{DcTransientState}
 use Rattle.transient.specs.OfGrid.{gridStep}
-use Rattle.switching_step.specs.declared.variables.SwitchingVariables.{SwitchingVariables}
-use Rattle.switching_step.specs.Constants.{switchingPart}
+use Rattle.switching_plan.specs.declared.variables.SwitchingVariables.{SwitchingVariables}
+use Rattle.switching_plan.specs.Constants.{switchingPart}
 use Rattle.run_start.specs.Start.{timeAt, rated}
 
 -- what the body reads and does not change

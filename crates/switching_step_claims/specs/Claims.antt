@@ -3,9 +3,9 @@ use Prim.Native.Nat.{ℕ, _≤_}
 use mathlib.Core.Path.{_≡_}
 use mathlib.Core.Bool.{Bool}
 use Rattle.grid.specs.declared.simulator.DcSwitchingSimulator.{DcSwitchingSimulator}
-use Rattle.switching_step.specs.declared.variables.SwitchingVariables.{SwitchingVariables}
-use Rattle.switching_step.specs.Switching.{switchingBody}
-use Rattle.switching_step.specs.Plans.{switchingPlanOf, switchingPlanStep}
+use Rattle.switching_plan.specs.declared.variables.SwitchingVariables.{SwitchingVariables}
+use Rattle.switching_plan.specs.Switching.{switchingBody}
+use Rattle.switching_plan.specs.Plans.{switchingPlanOf, switchingPlanStep}
 
 -- what is worked out once for a run changes no step
 pub record PlanClaims : Type 0 where

@@ -1,8 +1,8 @@
 -- `switching_plan` meets its contract. Assumes nothing.
-use Rattle.switching_step.specs.Plans.{switchingPlanOf}
+use Rattle.switching_plan.specs.Plans.{switchingPlanOf}
 use borrow.Author.Needs.{needs}
-use Rattle.switching_step.proofs.plan.switching_plan.Statement.{statement}
-use Rattle.switching_step.proofs.plan.switching_plan.Tie as tie
+use Rattle.switching_plan.proofs.plan.switching_plan.Statement.{statement}
+use Rattle.switching_plan.proofs.plan.switching_plan.Tie as tie
 
 network-of-requires : tie.Need-network-of-requires
 network-of-requires c κs = search needs

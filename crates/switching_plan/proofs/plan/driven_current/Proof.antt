@@ -1,5 +1,5 @@
 -- `driven_current` meets its contract. Assumes nothing.
-use Rattle.switching_step.specs.Switching.{drivenCurrent}
+use Rattle.switching_plan.specs.Switching.{drivenCurrent}
 use Rattle.grid.specs.declared.parts.ConverterStation.{ConverterStation}
 use Rattle.grid.specs.declared.parts.DcCable.{DcCable}
 use Rattle.grid.specs.Simulator.{blankStation}
@@ -14,8 +14,8 @@ use Prim.Native.Nat.{ℕ, _<_}
 use mathlib.Core.List.{List}
 use mathlib.Core.Path.{_≡_}
 use borrow.Author.Needs.{needs}
-use Rattle.switching_step.proofs.plan.driven_current.Statement.{statement}
-use Rattle.switching_step.proofs.plan.driven_current.Tie as tie
+use Rattle.switching_plan.proofs.plan.driven_current.Statement.{statement}
+use Rattle.switching_plan.proofs.plan.driven_current.Tie as tie
 
 -- stations read at the cut ends
 between : (stations : List ConverterStation) (f t n : ℕ) (c : DcCable) (d : ConverterStation) (r : Float) → f ≡ cut n (c .«from_station») → t ≡ cut n (c .«to_station»)
