@@ -15,7 +15,8 @@ use Rattle.grid.specs.declared.parts.ConverterStation.{ConverterStation}
 use Rattle.grid.specs.declared.simulator.DcSwitchingSimulator.{DcSwitchingSimulator}
 use Rattle.timing.specs.Steps.{roundedUp, stepsOf}
 use Rattle.part_checks.specs.PartChecks.{topologyOk, stationOk, cableOk, breakerTypeOk, breakerOk}
-use Rattle.rules.specs.Studies.{first, broken, tooManyParts, timeOutside, tooManySteps, stationOutside, cableOutside, breakerOutside, switchingRefusal}
+use Rattle.rule_tests.specs.Rules.{tooManyParts, timeOutside, tooManySteps, stationOutside, cableOutside, breakerOutside}
+use Rattle.rules.specs.Studies.{first, broken, switchingRefusal}
 use Rattle.portions.specs.Stopping.{joined, advance, answerOf, memoryOf}
 use Rattle.network.specs.Capacitance.{ownCapacitance, joinedCapacitance}
 use Rattle.state_derivatives.specs.Derivatives.{derivatives}

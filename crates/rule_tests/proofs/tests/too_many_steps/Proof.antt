@@ -1,9 +1,9 @@
 -- `too_many_steps` meets its contract. Assumes nothing.
-use Rattle.rules.specs.Studies.{tooManySteps}
+use Rattle.rule_tests.specs.Rules.{tooManySteps}
 use borrow.Author.Needs.{needs}
 use Rattle.timing.proofs.Stepping.{limit-kept}
-use Rattle.rules.proofs.studies.too_many_steps.Statement.{statement}
-use Rattle.rules.proofs.studies.too_many_steps.Tie as tie
+use Rattle.rule_tests.proofs.tests.too_many_steps.Statement.{statement}
+use Rattle.rule_tests.proofs.tests.too_many_steps.Tie as tie
 
 total-steps-requires : tie.Need-total-steps-requires
 total-steps-requires c κs = search needs

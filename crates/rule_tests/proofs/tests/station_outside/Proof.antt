@@ -2,9 +2,9 @@
 use borrow.Author.Needs.{needs}
 use Rattle.lists.proofs.Scanning.{stops-short, unmapped}
 use Rattle.part_checks.specs.PartChecks.{stationOk}
-use Rattle.rules.specs.Studies.{stationOutside}
-use Rattle.rules.proofs.studies.station_outside.Statement.{statement}
-use Rattle.rules.proofs.studies.station_outside.Tie as tie
+use Rattle.rule_tests.specs.Rules.{stationOutside}
+use Rattle.rule_tests.proofs.tests.station_outside.Statement.{statement}
+use Rattle.rule_tests.proofs.tests.station_outside.Tie as tie
 
 first-bad-station-requires : tie.Need-first-bad-station-requires
 first-bad-station-requires c κs = search needs

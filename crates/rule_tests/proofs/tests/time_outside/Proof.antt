@@ -1,10 +1,10 @@
 -- `time_outside` meets its contract. Assumes nothing.
-use Rattle.rules.specs.Studies.{timeOutside}
+use Rattle.rule_tests.specs.Rules.{timeOutside}
 use borrow.Author.Needs.{needs}
 use lib.Ieee.{ofBits, ofInt, round}
 use Rattle.ranges.specs.Ranges.{realIn}
-use Rattle.rules.proofs.studies.time_outside.Statement.{statement}
-use Rattle.rules.proofs.studies.time_outside.Tie as tie
+use Rattle.rule_tests.proofs.tests.time_outside.Statement.{statement}
+use Rattle.rule_tests.proofs.tests.time_outside.Tie as tie
 
 in-range-requires : tie.Need-in-range-requires
 in-range-requires c κs = search needs

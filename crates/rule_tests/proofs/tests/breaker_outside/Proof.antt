@@ -2,9 +2,9 @@
 use borrow.Author.Needs.{needs}
 use Rattle.lists.proofs.Scanning.{stops-short, unmapped}
 use Rattle.part_checks.specs.PartChecks.{breakerOk}
-use Rattle.rules.specs.Studies.{breakerOutside}
-use Rattle.rules.proofs.studies.breaker_outside.Statement.{statement}
-use Rattle.rules.proofs.studies.breaker_outside.Tie as tie
+use Rattle.rule_tests.specs.Rules.{breakerOutside}
+use Rattle.rule_tests.proofs.tests.breaker_outside.Statement.{statement}
+use Rattle.rule_tests.proofs.tests.breaker_outside.Tie as tie
 
 first-bad-breaker-requires : tie.Need-first-bad-breaker-requires
 first-bad-breaker-requires c κs = search needs

@@ -2,9 +2,9 @@
 use borrow.Author.Needs.{needs}
 use Rattle.lists.proofs.Scanning.{stops-short, unmapped}
 use Rattle.part_checks.specs.PartChecks.{cableOk}
-use Rattle.rules.specs.Studies.{cableOutside}
-use Rattle.rules.proofs.studies.cable_outside.Statement.{statement}
-use Rattle.rules.proofs.studies.cable_outside.Tie as tie
+use Rattle.rule_tests.specs.Rules.{cableOutside}
+use Rattle.rule_tests.proofs.tests.cable_outside.Statement.{statement}
+use Rattle.rule_tests.proofs.tests.cable_outside.Tie as tie
 
 first-bad-cable-requires : tie.Need-first-bad-cable-requires
 first-bad-cable-requires c κs = search needs

@@ -1,8 +1,8 @@
 -- `too_many_parts` meets its contract. Assumes nothing.
 use mathlib.Core.Path.{refl}
-use Rattle.rules.specs.Studies.{tooManyParts}
-use Rattle.rules.proofs.studies.too_many_parts.Statement.{statement}
-use Rattle.rules.proofs.studies.too_many_parts.Tie as tie
+use Rattle.rule_tests.specs.Rules.{tooManyParts}
+use Rattle.rule_tests.proofs.tests.too_many_parts.Statement.{statement}
+use Rattle.rule_tests.proofs.tests.too_many_parts.Tie as tie
 
 returns : tie.Need-returns
 unfolding tooManyParts
