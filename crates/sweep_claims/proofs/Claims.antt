@@ -28,7 +28,7 @@ use Rattle.portions.specs.Demand3 as whole
 use Rattle.portions.proofs.Demand3.{demand3-claims}
 use Rattle.portions.proofs.Course.{chain-and}
 use Rattle.fault_plan.specs.Fault.{faultAfter}
-use Rattle.fault_cases.specs.declared.reasons.CaseOutcome.{CaseOutcome}
+use Rattle.case_reasons.specs.declared.reasons.CaseOutcome.{CaseOutcome}
 use Rattle.fault_cases.specs.Cases.{casesOf, faultOf}
 use Rattle.case_listing.specs.Listing.{someDetected, clearingCurrent, outcomeAfter, rowFor, caseRow, listed, listing}
 use Rattle.case_steps.specs.declared.open_case.OpenCase.{OpenCase}

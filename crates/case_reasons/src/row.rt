@@ -6,9 +6,9 @@ ghost use Prim.Native.Nat.{_+_, _≤_};
 ghost use lib.ListN.{length, getD};
 ghost use lib.Seq.{sets};
 ghost use Rattle.lists.specs.Tables.{tab};
-ghost use Rattle.fault_cases.specs.Reasons.{writesRow, numbersOf, currentShown};
-use crate::cases::CasePlace;
+ghost use Rattle.case_reasons.specs.Reasons.{writesRow, numbersOf, currentShown};
 use crate::reasons::CaseOutcome;
+use fault_cases::CasePlace;
 use float64::to_bits;
 
 // The numbers of a row.

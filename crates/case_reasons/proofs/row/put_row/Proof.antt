@@ -9,8 +9,8 @@ use mathlib.Core.Path.{ap, sym, _∙_}
 use Prim.Native.Nat.{_+_}
 use borrow.Author.Tests.{leb-true}
 use borrow.Author.Needs.{needs}
-use Rattle.fault_cases.proofs.row.put_row.Statement.{statement}
-use Rattle.fault_cases.proofs.row.put_row.Tie as tie
+use Rattle.case_reasons.proofs.row.put_row.Statement.{statement}
+use Rattle.case_reasons.proofs.row.put_row.Tie as tie
 
 writes-row-requires : tie.Need-writes-row-requires
 writes-row-requires c κs = search needs

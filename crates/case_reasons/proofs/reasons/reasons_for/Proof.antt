@@ -1,13 +1,13 @@
 -- `reasons_for` meets its contract. Assumes nothing.
-use Rattle.fault_cases.specs.Reasons.{reasonsOf, exceededBy, cableIn}
+use Rattle.case_reasons.specs.Reasons.{reasonsOf, exceededBy, cableIn}
 use Rattle.lists.specs.Scans.{some}
 use Rattle.lists.proofs.Scanning.{unmapped, length-cut}
 use lib.ListN.{length}
 use native.Mathlib.Omega.{arith}
 use mathlib.Core.Path.{_≡_, sym}
 use borrow.Author.Needs.{needs}
-use Rattle.fault_cases.proofs.reasons.reasons_for.Statement.{statement}
-use Rattle.fault_cases.proofs.reasons.reasons_for.Tie as tie
+use Rattle.case_reasons.proofs.reasons.reasons_for.Statement.{statement}
+use Rattle.case_reasons.proofs.reasons.reasons_for.Tie as tie
 
 long : (c : tie.Start) → length (c .args .g .breakers) ≡ 32
 long c = search (needs, unmapped)

@@ -16,10 +16,10 @@ use Rattle.grid.specs.declared.parts.DcCable.{DcCable}
 use Rattle.grid.specs.declared.parts.DcBreaker.{DcBreaker}
 use Rattle.grid.specs.declared.parts.SweepOrder.{SweepOrder}
 use Rattle.grid.specs.declared.simulator.DcSwitchingSimulator.{DcSwitchingSimulator}
 use Rattle.fault_cases.specs.declared.cases.CasePlace.{CasePlace}
-use Rattle.fault_cases.specs.declared.reasons.CaseOutcome.{CaseOutcome}
+use Rattle.case_reasons.specs.declared.reasons.CaseOutcome.{CaseOutcome}
 use Rattle.fault_cases.specs.Cases.{tenthsOf, casesOf, placeOf, faultIn, faultOf}
-use Rattle.fault_cases.specs.Reasons.{reasonsOf, rowOf, writesRow}
+use Rattle.case_reasons.specs.Reasons.{reasonsOf, rowOf, writesRow}
 
 whole : ℕ → Float
 whole n = decimal n 1

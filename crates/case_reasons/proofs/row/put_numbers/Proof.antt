@@ -8,8 +8,8 @@ use native.Mathlib.Omega.{arith}
 use Prim.Native.Nat.{_-_, _≤_}
 use mathlib.Core.Path.{_≡_, refl}
 use borrow.Author.Needs.{needs}
-use Rattle.fault_cases.proofs.row.put_numbers.Statement.{statement}
-use Rattle.fault_cases.proofs.row.put_numbers.Tie as tie
+use Rattle.case_reasons.proofs.row.put_numbers.Statement.{statement}
+use Rattle.case_reasons.proofs.row.put_numbers.Tie as tie
 
 abbrev Inv-loop : tie.InvT-loop
 Inv-loop rows₀ at row i₀ rows i = (i ≤ 8) × (length rows ≡ length rows₀) × (rows ≡ sets rows₀ at (tab i (λ k. getD row k 0)))

@@ -6,10 +6,10 @@ use lib.ListN.{length, List·getD-eq-default}
 use native.Mathlib.Omega.{arith}
 use mathlib.Core.Path.{_≡_, sym}
 use borrow.Author.Needs.{needs}
-use Rattle.fault_cases.proofs.reasons.cable_at.Statement.{statement}
-use Rattle.fault_cases.proofs.reasons.cable_at.Tie as tie
-use Rattle.fault_cases.proofs.reasons.cable_at.Reads as reads
-use Rattle.fault_cases.proofs.reasons.cable_at.Lts as lts
+use Rattle.case_reasons.proofs.reasons.cable_at.Statement.{statement}
+use Rattle.case_reasons.proofs.reasons.cable_at.Tie as tie
+use Rattle.case_reasons.proofs.reasons.cable_at.Reads as reads
+use Rattle.case_reasons.proofs.reasons.cable_at.Lts as lts
 
 long : (c : tie.Start) → length (c .args .g .cables) ≡ 64
 long c = search (needs, unmapped)

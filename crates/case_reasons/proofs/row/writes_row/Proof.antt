@@ -1,10 +1,10 @@
 -- `writes_row` meets its contract. Assumes nothing.
 use native.Mathlib.Omega.{arith}
 use Prim.Native.Nat.{_+_}
 use Rattle.fault_cases.proofs.Numbers.{room}
 use borrow.Author.Tests.{eq-eqb, ne-eqb, lt-leb}
-use Rattle.fault_cases.proofs.row.writes_row.Statement.{statement}
-use Rattle.fault_cases.proofs.row.writes_row.Tie as tie
+use Rattle.case_reasons.proofs.row.writes_row.Statement.{statement}
+use Rattle.case_reasons.proofs.row.writes_row.Tie as tie
 
 returns : tie.Need-returns
 returns c = rw (eq-eqb _ _ (c .if1 .taken))

@@ -1,7 +1,7 @@
 -- `row_numbers` meets its contract. Assumes nothing.
 use borrow.Author.Needs.{needs}
-use Rattle.fault_cases.proofs.row.row_numbers.Statement.{statement}
-use Rattle.fault_cases.proofs.row.row_numbers.Tie as tie
+use Rattle.case_reasons.proofs.row.row_numbers.Statement.{statement}
+use Rattle.case_reasons.proofs.row.row_numbers.Tie as tie
 
 to-bits-requires : tie.Need-to-bits-requires
 to-bits-requires c κs = search needs

@@ -1,5 +1,5 @@
 -- `some_exceeded` meets its contract. Assumes nothing.
-use Rattle.fault_cases.specs.Reasons.{atEnd, exceeds, limitOf, exceededBy}
+use Rattle.case_reasons.specs.Reasons.{atEnd, exceeds, limitOf, exceededBy}
 use Rattle.grid.specs.declared.parts.DcBreaker.{DcBreaker}
 use Rattle.grid.specs.Simulator.{blankBreaker}
 use Rattle.lists.proofs.Scanning.{some-found, some-none, unmapped}
@@ -12,8 +12,8 @@ use Prim.Native.Nat.{_-_, _≤_}
 use mathlib.Core.Bool.{false, _&&_}
 use mathlib.Core.Path.{_≡_, refl, sym, ap, _∙_}
 use borrow.Author.Needs.{needs}
-use Rattle.fault_cases.proofs.reasons.some_exceeded.Statement.{statement}
-use Rattle.fault_cases.proofs.reasons.some_exceeded.Tie as tie
+use Rattle.case_reasons.proofs.reasons.some_exceeded.Statement.{statement}
+use Rattle.case_reasons.proofs.reasons.some_exceeded.Tie as tie
 
 abbrev Inv-loop : tie.InvT-loop
 Inv-loop n cable limit value breakers i₀ i = (i ≤ n) × (some i (exceededBy breakers cable limit value) ≡ false)

@@ -13,10 +13,10 @@ use Rattle.grid.specs.Simulator.{blankCable, blankBreaker, breakersOf}
 use Rattle.grid.specs.declared.parts.DcCable.{DcCable}
 use Rattle.grid.specs.declared.parts.DcBreaker.{DcBreaker}
 use Rattle.grid.specs.declared.simulator.DcSwitchingSimulator.{DcSwitchingSimulator}
 use Rattle.fault_cases.specs.declared.cases.CasePlace.{CasePlace}
-use Rattle.fault_cases.specs.declared.reasons.CaseOutcome.{CaseOutcome}
-use Rattle.fault_cases.specs.declared.reasons.Limit.{Limit}
-use Rattle.fault_cases.specs.declared.reasons.Limit.the-variants.{BreakingCurrent, Energy}
+use Rattle.case_reasons.specs.declared.reasons.CaseOutcome.{CaseOutcome}
+use Rattle.case_reasons.specs.declared.reasons.Limit.{Limit}
+use Rattle.case_reasons.specs.declared.reasons.Limit.the-variants.{BreakingCurrent, Energy}
 
 -- ---- breakers at the ends of a cable
 

@@ -1,9 +1,9 @@
 -- `is_exceeded` meets its contract. Assumes nothing.
 use borrow.Author.Needs.{needs}
-use Rattle.fault_cases.proofs.reasons.is_exceeded.Statement.{statement}
-use Rattle.fault_cases.proofs.reasons.is_exceeded.Tie as tie
-use Rattle.fault_cases.proofs.reasons.is_exceeded.Reads as reads
-use Rattle.fault_cases.proofs.reasons.is_exceeded.Lts as lts
+use Rattle.case_reasons.proofs.reasons.is_exceeded.Statement.{statement}
+use Rattle.case_reasons.proofs.reasons.is_exceeded.Tie as tie
+use Rattle.case_reasons.proofs.reasons.is_exceeded.Reads as reads
+use Rattle.case_reasons.proofs.reasons.is_exceeded.Lts as lts
 
 limit-of-requires : tie.Need-limit-of-requires
 limit-of-requires c κs = search needs

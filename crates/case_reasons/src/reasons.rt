@@ -3,7 +3,7 @@ ghost use mathlib.Core.Path.{_≡_};
 ghost use mathlib.Core.Bool.{cond, _&&_};
 ghost use Prim.Native.Nat.{_≤_};
 ghost use Rattle.lists.specs.Scans.{some};
-ghost use Rattle.fault_cases.specs.Reasons.{exceeds, atEnd, limitOf, exceededBy, cableIn, reasonsOf};
+ghost use Rattle.case_reasons.specs.Reasons.{exceeds, atEnd, limitOf, exceededBy, cableIn, reasonsOf};
 use grid::DcBreaker;
 use grid::DcCable;
 use grid::DcSwitchingSimulator;
