@@ -23,7 +23,8 @@ use Rattle.breaker_times.specs.Breakers.{clearingTimeOf, fastestOf}
 use Rattle.network.specs.Capacitance.{ownCapacitance, joinedCapacitance}
 use Rattle.network.specs.Network.{drainOf}
 use Rattle.state_derivatives.specs.Derivatives.{derivatives}
-use Rattle.transient.specs.Rk4.{ahead, blended, rk4, raised, newState, stepBy}
+use Rattle.rk4_stages.specs.Stages.{ahead, blended}
+use Rattle.transient.specs.Rk4.{rk4, raised, newState, stepBy}
 use Rattle.detection.specs.Detection.{detected}
 use Rattle.fault_circuit.specs.Parameters.{parametersAt}
 use Rattle.fault_circuit.specs.Circuit.{responseOf, underdampedResponse, overdampedResponse, typeFactor, circuitAt}
@@ -32,7 +33,7 @@ use Rattle.fault_plan.specs.Fault.{whileFaulted, afterClearing, beforeInception
 use Rattle.power_flow.specs.declared.flow.DcGridSolution.{DcGridSolution}
 use Rattle.run_start.proofs.Samples.{double, station, cable, breaker, two}
 use Rattle.fault_cases.specs.Cases.{casesOf, faultIn}
-use Rattle.fault_cases.specs.Reasons.{reasonsOf, rowOf}
+use Rattle.case_reasons.specs.Reasons.{reasonsOf, rowOf}
 use Rattle.case_listing.specs.Listing.{counts, clearsIn, someDetected, clearingCurrent, outcomeAfter, rowFor, caseRow, listing}
 
 -- ---- 01's example of the program `sweep`: three cases of one step, which clears the fault, and which reason 8 does not count

@@ -12,7 +12,7 @@ use Rattle.fault_plan.specs.Fault.{faultAfter}
 use Rattle.runs.specs.declared.result.DcTransientResult.{DcTransientResult}
 use Rattle.fault_runs.specs.FaultRuns.{faultResults}
 use Rattle.fault_cases.specs.declared.cases.CasePlace.{CasePlace}
-use Rattle.fault_cases.specs.declared.reasons.CaseOutcome.{CaseOutcome}
+use Rattle.case_reasons.specs.declared.reasons.CaseOutcome.{CaseOutcome}
 use Rattle.fault_cases.specs.Cases.{types, tenthsOf, casesOf, placeOf, faultOf}
 use Rattle.case_listing.specs.Listing.{outcomeAfter}
 

@@ -16,9 +16,9 @@ use Rattle.power_flow.specs.declared.flow.DcGridSolution.{DcGridSolution}
 use Rattle.fault_plan.specs.Fault.{faultAfter}
 use Rattle.portions.specs.Cases.{toList, isSome}
 use Rattle.fault_cases.specs.declared.cases.CasePlace.{CasePlace}
-use Rattle.fault_cases.specs.declared.reasons.CaseOutcome.{CaseOutcome}
+use Rattle.case_reasons.specs.declared.reasons.CaseOutcome.{CaseOutcome}
 use Rattle.fault_cases.specs.Cases.{placeOf, faultOf}
-use Rattle.fault_cases.specs.Reasons.{reasonsOf, rowOf}
+use Rattle.case_reasons.specs.Reasons.{reasonsOf, rowOf}
 
 -- ---- of 000's run of one fault
 

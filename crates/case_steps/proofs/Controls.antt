@@ -10,7 +10,7 @@ use Rattle.float64.specs.Constants.{nought, decimal}
 use Rattle.grid.specs.declared.simulator.DcSwitchingSimulator.{DcSwitchingSimulator}
 use Rattle.fault_plan.specs.declared.variables.FaultVariables.{FaultVariables}
 use Rattle.fault_plan.specs.Fault.{beforeLoop}
-use Rattle.fault_cases.specs.declared.reasons.CaseOutcome.{CaseOutcome}
+use Rattle.case_reasons.specs.declared.reasons.CaseOutcome.{CaseOutcome}
 use Rattle.case_steps.specs.declared.open_case.OpenCase.{OpenCase}
 use Rattle.case_steps.specs.OpenCases.{startCase, noCase, outcomeIn, countsAt, stepped}
 

@@ -10,7 +10,7 @@ use Rattle.detection.specs.Detection.{detected}
 use Rattle.fault_plan.specs.declared.variables.FaultVariables.{FaultVariables}
 use Rattle.fault_plan.specs.Fault.{faultBody, beforeLoop}
 use Rattle.runs.specs.Blank.{blankState}
-use Rattle.fault_cases.specs.declared.reasons.CaseOutcome.{CaseOutcome}
+use Rattle.case_reasons.specs.declared.reasons.CaseOutcome.{CaseOutcome}
 use Rattle.case_steps.specs.declared.open_case.OpenCase.{OpenCase}
 
 -- "start values where no step is made (000's variables as before its loop, the rest zeros and no)"

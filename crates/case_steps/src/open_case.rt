@@ -1,7 +1,7 @@
 // What a sweep keeps of its open case.
 ghost use mathlib.Core.Path.{_≡_};
 ghost use Rattle.case_steps.specs.OpenCases.{startCase, noCase, outcomeIn};
-use fault_cases::CaseOutcome;
+use case_reasons::CaseOutcome;
 use fault_plan::FaultVariables;
 use fault_plan::first_fault_variables;
 use grid::DcSwitchingSimulator;

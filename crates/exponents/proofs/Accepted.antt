@@ -22,7 +22,8 @@ use Rattle.ranges.proofs.InRange.{in-range, range-in}
 use Rattle.timing.specs.Steps.{timeOfStep, k1000, timeStepMs, stepsOf}
 use Rattle.timing.specs.Claims.{Steps}
 use Rattle.part_checks.specs.PartChecks.{stationOk, cableOk, faultOk, orderOk}
-use Rattle.rules.specs.Studies.{broken, timeOutside, stationOutside, cableOutside, faultOrder, faultRefusal, sweepRefusal}
+use Rattle.rule_tests.specs.Rules.{timeOutside, stationOutside, cableOutside}
+use Rattle.rules.specs.Studies.{broken, faultOrder, faultRefusal, sweepRefusal}
 use Rattle.rule_claims.specs.Claims.{Sizes}
 use Rattle.rule_claims.proofs.Claims.{refusal-claims, accepted-claims}
 use Rattle.rule_claims.proofs.Sizes.{size-claims}

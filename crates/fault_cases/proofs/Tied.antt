@@ -8,10 +8,6 @@ use Rattle.fault_cases.proofs.cases.case_place as case-place-contract
 use Rattle.fault_cases.proofs.cases.case_place.Reads as case-place-reads
 use Rattle.fault_cases.proofs.cases.fault_at as fault-at-contract
 use Rattle.fault_cases.proofs.cases.fault_at.Reads as fault-at-reads
-use Rattle.fault_cases.proofs.reasons.reasons_for as reasons-for-contract
-use Rattle.fault_cases.proofs.reasons.reasons_for.Reads as reasons-for-reads
-use Rattle.fault_cases.proofs.row.put_row as put-row-contract
-use Rattle.fault_cases.proofs.row.put_row.Reads as put-row-reads
 
 module _ (κs : Lfts 0) where
   pub case-count-any : (a : ArgsD case-count-contract.signature κs) → case-count-reads.Asked κs a
@@ -22,10 +18,3 @@ module _ (κs : Lfts 0) where
 
   pub fault-at-any : (a : ArgsD fault-at-contract.signature κs) → fault-at-reads.Asked κs a
   fault-at-any a = tt
-
-  pub reasons-for-any : (a : ArgsD reasons-for-contract.signature κs) → reasons-for-reads.Asked κs a
-  reasons-for-any a = tt
-
-module _ (κs : Lfts 1) where
-  pub put-row-any : (a : ArgsD put-row-contract.signature κs) → put-row-reads.Asked κs a
-  put-row-any a = tt

@@ -8,7 +8,8 @@ use Rattle.grid.specs.declared.parts.DcFaultEvent.{DcFaultEvent}
 use Rattle.grid.specs.declared.simulator.DcSwitchingSimulator.{DcSwitchingSimulator}
 use Rattle.timing.specs.Steps.{stepsOf}
 use Rattle.timing.proofs.Claims.{step-claims}
-use Rattle.rules.specs.Studies.{faultRefusal, first, broken, tooManyParts}
+use Rattle.rule_tests.specs.Rules.{tooManyParts}
+use Rattle.rules.specs.Studies.{faultRefusal, first, broken}
 use Rattle.rule_claims.proofs.Claims.{accepted-claims}
 use Rattle.portions.specs.Calls.{Chain}
 use Rattle.fault_plan.specs.Fault.{faultBody, faultAfter}

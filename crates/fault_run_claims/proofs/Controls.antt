@@ -17,7 +17,8 @@ use Rattle.grid.specs.declared.parts.DcFaultEvent.{DcFaultEvent}
 use Rattle.grid.specs.declared.simulator.DcSwitchingSimulator.{DcSwitchingSimulator}
 use Rattle.timing.specs.Steps.{roundedUp, stepsOf, countBelow, recordsOf}
 use Rattle.part_checks.specs.PartChecks.{topologyOk, stationOk, cableOk, breakerTypeOk, breakerOk, faultOk}
-use Rattle.rules.specs.Studies.{first, broken, tooManyParts, timeOutside, tooManySteps, stationOutside, cableOutside, breakerOutside, faultRefusal}
+use Rattle.rule_tests.specs.Rules.{tooManyParts, timeOutside, tooManySteps, stationOutside, cableOutside, breakerOutside}
+use Rattle.rules.specs.Studies.{first, broken, faultRefusal}
 use Rattle.portions.specs.declared.Stop.{Stop}
 use Rattle.portions.specs.declared.Stop.the-variants.{Finished, Spent, Full, Refused}
 use Rattle.portions.specs.Stopping.{joined, advance, answerOf, memoryOf}

@@ -18,10 +18,10 @@ use Rattle.power_flow.specs.declared.flow.DcGridSolution.{DcGridSolution}
 use Rattle.portions.specs.Cases.{Cases, rowOf}
 use Rattle.portions.specs.Demand3.{Sweeps}
 use Rattle.portions.proofs.Strides as strides
-use Rattle.fault_cases.specs.declared.reasons.CaseOutcome.{CaseOutcome}
+use Rattle.case_reasons.specs.declared.reasons.CaseOutcome.{CaseOutcome}
 use Rattle.fault_cases.specs.Cases.{casesOf, placeOf, faultOf}
-use Rattle.fault_cases.specs.Reasons as reason
-use Rattle.fault_cases.specs.Reasons.{reasonsOf, numbersOf}
+use Rattle.case_reasons.specs.Reasons as reason
+use Rattle.case_reasons.specs.Reasons.{reasonsOf, numbersOf}
 use Rattle.case_listing.specs.Listing.{rowFor}
 use Rattle.case_steps.specs.declared.open_case.OpenCase.{OpenCase}
 use Rattle.case_steps.specs.OpenCases.{caseStep, caseFrom}

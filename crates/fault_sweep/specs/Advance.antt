@@ -12,7 +12,7 @@ use Rattle.power_flow.specs.declared.flow.DcGridSolution.{DcGridSolution}
 use Rattle.portions.specs.Stopping.{Stepper, answerOf}
 use Rattle.portions.specs.Cases.{Cases, KeptCase, closes, rowWritten, nextKept}
 use Rattle.fault_cases.specs.Cases.{casesOf, faultOf}
-use Rattle.fault_cases.specs.Reasons.{rowLength}
+use Rattle.case_reasons.specs.Reasons.{rowLength}
 use Rattle.case_listing.specs.Listing.{rowFor}
 use Rattle.case_steps.specs.declared.open_case.OpenCase.{OpenCase}
 use Rattle.case_steps.specs.OpenCases.{startCase, noCase, outcomeIn, caseStep}

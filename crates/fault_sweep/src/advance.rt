@@ -4,7 +4,7 @@ ghost use Rattle.portions.specs.Stopping.{memoryOf};
 ghost use Rattle.fault_sweep.specs.Advance.{sweepBroken, sweepStepper, advancedSweep};
 use crate::sweep::AdvancedSweep;
 use crate::sweep::Sweep;
-use fault_cases::ROW_LENGTH;
+use case_reasons::ROW_LENGTH;
 use fault_cases::case_count;
 use portions::Stop;
 use portions::reason;

@@ -17,8 +17,8 @@ use grid::DcSwitchingSimulator;
 use portions::Stop;
 use runs::DcTransientResult;
 use state_derivatives::DcTransientState;
+use switching_plan::SwitchingVariables;
 use switching_runs::SwitchingRun;
-use switching_step::SwitchingVariables;
 
 // The most numbers of lent memory.
 pub const MOST: usize = 4096;

@@ -14,7 +14,8 @@ use Rattle.lists.proofs.Scanning.{left, right, passed, every-of}
 use Rattle.part_checks.specs.PartChecks.{stationOk, breakerOk, faultOk, orderOk}
 use Rattle.grid.specs.Simulator.{breakersOf}
 use Rattle.timing.specs.Steps.{stepsOf, mostSteps}
-use Rattle.rules.specs.Studies.{first, broken, startBroken, startRefusal, tooManySteps, switchingOrder, faultOrder, breakerOutside, flowRefusal, detectionRefusal, switchingRefusal, faultRefusal, sweepRefusal, pointRefusal, numberOf}
+use Rattle.rule_tests.specs.Rules.{tooManySteps, breakerOutside}
+use Rattle.rules.specs.Studies.{first, broken, startBroken, startRefusal, switchingOrder, faultOrder, flowRefusal, detectionRefusal, switchingRefusal, faultRefusal, sweepRefusal, pointRefusal, numberOf}
 use Rattle.rule_claims.specs.Claims.{RefusalClaims, AcceptedClaims, FastestClaims}
 use Rattle.timing.specs.Claims.{Steps}
 use Rattle.breaker_times.specs.Claims.{timed}

@@ -10,7 +10,8 @@ use lib.ListN.{drop}
 use Rattle.lists.specs.Scans.{every}
 use Rattle.lists.proofs.Scanning.{left, right}
 use Rattle.part_checks.specs.PartChecks.{faultOk, orderOk}
-use Rattle.rules.specs.Studies.{broken, tooManyParts, flowOrder, detectionOrder, switchingOrder, faultOrder}
+use Rattle.rule_tests.specs.Rules.{tooManyParts}
+use Rattle.rules.specs.Studies.{broken, flowOrder, detectionOrder, switchingOrder, faultOrder}
 use Rattle.rule_claims.specs.Claims.{Sizes, SizeClaims}
 use Rattle.rule_claims.proofs.Claims.{refusal-claims}
 use Rattle.grid.specs.declared.simulator.DcSwitchingSimulator.{DcSwitchingSimulator}

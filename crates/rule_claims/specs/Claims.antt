@@ -13,7 +13,8 @@ use Rattle.breaker_times.specs.Breakers.{timeOf, fastestOf}
 use Rattle.timing.specs.Claims.{Steps}
 use Rattle.breaker_times.specs.Claims.{HasTime}
 use Rattle.part_checks.specs.PartChecks.{stationOk, faultOk, orderOk}
-use Rattle.rules.specs.Studies.{order, broken, startBroken, startRefusal, breakerOutside, flowOrder, detectionOrder, switchingOrder, faultOrder, flowRefusal, detectionRefusal, switchingRefusal, faultRefusal, sweepRefusal, pointRefusal, numberOf}
+use Rattle.rule_tests.specs.Rules.{breakerOutside}
+use Rattle.rules.specs.Studies.{order, broken, startBroken, startRefusal, flowOrder, detectionOrder, switchingOrder, faultOrder, flowRefusal, detectionRefusal, switchingRefusal, faultRefusal, sweepRefusal, pointRefusal, numberOf}
 use Rattle.grid.specs.declared.parts.ConverterStation.{ConverterStation}
 use Rattle.grid.specs.declared.parts.DcFaultEvent.{DcFaultEvent}
 use Rattle.grid.specs.declared.parts.SweepOrder.{SweepOrder}

@@ -11,7 +11,8 @@ use Rattle.ranges.specs.Ranges.{realIn, wholeIn}
 use Rattle.part_checks.specs.PartChecks.{topologyOk, stationOk, cableOk, breakerTypeOk, breakerOk, faultOk, orderOk}
 use Rattle.grid.specs.Simulator.{blankStation, blankCable, blankBreaker, newSimulator, withStation, withCable, withBreaker, keptTimeStep, keptDuration}
 use Rattle.timing.specs.Steps.{roundedUp, stepsOf}
-use Rattle.rules.specs.Studies.{order, first, broken, tooManyParts, timeOutside, tooManySteps, stationOutside, cableOutside, breakerOutside, flowOrder, detectionOrder, switchingOrder, faultOrder, flowRefusal, detectionRefusal, switchingRefusal, faultRefusal, sweepRefusal, pointRefusal, numberOf}
+use Rattle.rule_tests.specs.Rules.{tooManyParts, timeOutside, tooManySteps, stationOutside, cableOutside, breakerOutside}
+use Rattle.rules.specs.Studies.{order, first, broken, flowOrder, detectionOrder, switchingOrder, faultOrder, flowRefusal, detectionRefusal, switchingRefusal, faultRefusal, sweepRefusal, pointRefusal, numberOf}
 use Rattle.grid.specs.declared.parts.ConverterTopology.the-variants.{Mmc}
 use Rattle.grid.specs.declared.parts.DcFaultType.the-variants.{PoleToGround}
 use Rattle.grid.specs.declared.parts.ConverterStation.{ConverterStation}

@@ -1,53 +1,19 @@
 -- The rules 1 to 10 of document 01, their numbers, and the order in which each study checks them. Definitions only.
 use Prim.Native.Nat.{ℕ}
-use mathlib.Core.Bool.{Bool, false, not, _&&_, _||_, cond}
+use mathlib.Core.Bool.{Bool, false, not, _||_, cond}
 use mathlib.Core.List.{List, [], _∷_}
-use lib.Dec.{eqb, ltb}
+use lib.Dec.{eqb}
 use lib.ListN.{getD}
-use Rattle.lists.specs.Scans.{every}
-use Rattle.ranges.specs.Ranges as range
-use Rattle.ranges.specs.Ranges.{realIn}
-use Rattle.part_checks.specs.PartChecks.{stationOk, cableOk, breakerOk, faultOk, orderOk}
-use Rattle.grid.specs.Simulator.{stationsOf, cablesOf, breakersOf}
-use Rattle.timing.specs.Steps.{stepsOf, mostSteps}
+use Rattle.part_checks.specs.PartChecks.{stationOk, faultOk, orderOk}
 use Rattle.grid.specs.declared.parts.ConverterStation.{ConverterStation}
 use Rattle.grid.specs.declared.parts.DcFaultEvent.{DcFaultEvent}
 use Rattle.grid.specs.declared.parts.SweepOrder.{SweepOrder}
 use Rattle.grid.specs.declared.simulator.DcSwitchingSimulator.{DcSwitchingSimulator}
+use Rattle.rule_tests.specs.Rules.{noStation, noCable, tooManyParts, timeOutside, tooManySteps, stationOutside, cableOutside, breakerOutside}
 use Rattle.rules.specs.declared.studies.Verdict.{Verdict}
 use Rattle.rules.specs.declared.studies.Verdict.the-variants.{Accepted, NoStation, NoCable, TooManyParts, TimeOutside, TooManySteps, StationOutside, CableOutside, BreakerOutside, EventOutside, NotConverged}
 
--- ---- the rules: when each is broken
-
--- 1 no station
-abbrev pub noStation : DcSwitchingSimulator → Bool
-noStation g = eqb (g .«n_stations») 0
-
--- 2 no cable
-abbrev pub noCable : DcSwitchingSimulator → Bool
-noCable g = eqb (g .«n_cables») 0
-
--- 3 more than 32 stations, 64 cables or 32 breakers
-unfoldable pub tooManyParts : DcSwitchingSimulator → Bool
-tooManyParts g = ltb 32 (g .«n_stations») || ltb 64 (g .«n_cables») || ltb 32 (g .«n_breakers»)
-
--- 4 time step or duration outside its range
-unfoldable pub timeOutside : DcSwitchingSimulator → Bool
-timeOutside g = not (realIn range.timeStep (g .«dt_us») && realIn range.duration (g .«duration_ms»))
-
--- 5 more than 1,000,000 steps
-unfoldable pub tooManySteps : DcSwitchingSimulator → Bool
-tooManySteps g = ltb mostSteps (stepsOf g)
-
--- 6, 7, 8 a field of a station, cable, breaker outside its range
-unfoldable pub stationOutside : DcSwitchingSimulator → Bool
-stationOutside g = not (every stationOk (stationsOf g))
-
-unfoldable pub cableOutside : DcSwitchingSimulator → Bool
-cableOutside g = not (every cableOk (cablesOf g))
-
-unfoldable pub breakerOutside : DcSwitchingSimulator → Bool
-breakerOutside g = not (every breakerOk (breakersOf g))
+-- ---- which rules are broken
 
 -- Which of the rules are broken, from rule 1 on; there is no rule 0. Whether 9 is, a field of a fault or sweep order outside its range, is handed in.
 abbrev pub rules : DcSwitchingSimulator → Bool → List Bool

@@ -2,15 +2,17 @@
 ghost use mathlib.Core.Path.{_≡_};
 ghost use mathlib.Core.Bool.{cond};
 ghost use lib.Dec.{leb};
-ghost use Rattle.rules.specs.Studies.{numberOf, broken, first, tooManyParts, timeOutside, tooManySteps, stationOutside, cableOutside, breakerOutside, flowRefusal, detectionRefusal, switchingRefusal, faultRefusal, sweepRefusal, pointRefusal};
+ghost use Rattle.rules.specs.Studies.{numberOf, broken, first, flowRefusal, detectionRefusal, switchingRefusal, faultRefusal, sweepRefusal, pointRefusal};
 use grid::ConverterStation;
 use grid::DcFaultEvent;
 use grid::DcSwitchingSimulator;
 use grid::SweepOrder;
-use grid::present;
-use ranges::in_range;
-use timing::MOST_STEPS;
-use timing::total_steps;
+use rule_tests::breaker_outside;
+use rule_tests::cable_outside;
+use rule_tests::station_outside;
+use rule_tests::time_outside;
+use rule_tests::too_many_parts;
+use rule_tests::too_many_steps;
 
 // What a study answers first.
 pub enum Verdict {
@@ -149,42 +151,4 @@ fn breaks(g: DcSwitchingSimulator, event_outside: bool, rule: u64) -> bool
         9 => event_outside,
         _ => false,
     }
-}
-
-fn too_many_parts(g: DcSwitchingSimulator) -> bool
-    ensures { λ r. ⌜ r ≡ tooManyParts g ⌝ }
-{
-    (32 < g.n_stations) | (64 < g.n_cables) | (32 < g.n_breakers)
-}
-
-fn time_outside(g: DcSwitchingSimulator) -> bool
-    ensures { λ r. ⌜ r ≡ timeOutside g ⌝ }
-{
-    let step = in_range(ranges::DT_US, g.dt_us);
-    let duration = in_range(ranges::DURATION_MS, g.duration_ms);
-    !(step & duration)
-}
-
-fn too_many_steps(g: DcSwitchingSimulator) -> bool
-    ensures { λ r. ⌜ r ≡ tooManySteps g ⌝ }
-{
-    MOST_STEPS < total_steps(g)
-}
-
-fn station_outside(g: DcSwitchingSimulator) -> bool
-    ensures { λ r. ⌜ r ≡ stationOutside g ⌝ }
-{
-    part_positions::first_bad_station(g) < present(g.n_stations, 32)
-}
-
-fn cable_outside(g: DcSwitchingSimulator) -> bool
-    ensures { λ r. ⌜ r ≡ cableOutside g ⌝ }
-{
-    part_positions::first_bad_cable(g) < present(g.n_cables, 64)
-}
-
-fn breaker_outside(g: DcSwitchingSimulator) -> bool
-    ensures { λ r. ⌜ r ≡ breakerOutside g ⌝ }
-{
-    part_positions::first_bad_breaker(g) < present(g.n_breakers, 32)
 }

@@ -11,8 +11,8 @@ use Rattle.lists.proofs.Counting.{by-test}
 use Rattle.portions.specs.Stopping.{joined}
 use Rattle.portions.specs.Cases.{toList}
 use Rattle.fault_cases.specs.declared.cases.CasePlace.{CasePlace}
-use Rattle.fault_cases.specs.declared.reasons.CaseOutcome.{CaseOutcome}
-use Rattle.fault_cases.specs.Reasons.{numbersOf, rowOf, writesRow}
+use Rattle.case_reasons.specs.declared.reasons.CaseOutcome.{CaseOutcome}
+use Rattle.case_reasons.specs.Reasons.{numbersOf, rowOf, writesRow}
 
 module _ (p : CasePlace) (reasons : ℕ) (x : CaseOutcome) (loss : Float) (at len : ℕ) (h : at + 8 ≤ len) where
   pub row-count : cond (writesRow reasons at len) 1 0 ≡ length (toList (rowOf p reasons x loss))

@@ -14,7 +14,8 @@ use Rattle.lists.proofs.Counting.{by-test, eq-or-ne}
 use Rattle.grid.specs.declared.parts.SweepOrder.{SweepOrder}
 use Rattle.grid.specs.declared.simulator.DcSwitchingSimulator.{DcSwitchingSimulator}
 use Rattle.timing.specs.Steps.{stepsOf}
-use Rattle.rules.specs.Studies.{sweepRefusal, startRefusal, first, broken, tooManyParts}
+use Rattle.rule_tests.specs.Rules.{tooManyParts}
+use Rattle.rules.specs.Studies.{sweepRefusal, startRefusal, first, broken}
 use Rattle.rule_claims.proofs.Claims.{refusal-claims, accepted-claims}
 use Rattle.power_flow.specs.declared.flow.DcGridSolution.{DcGridSolution}
 use Rattle.power_flow.specs.Flow.{solutionOf}
@@ -27,7 +28,7 @@ use Rattle.portions.specs.Demand3 as whole
 use Rattle.portions.proofs.Demand3.{demand3-claims}
 use Rattle.portions.proofs.Course.{chain-and}
 use Rattle.fault_plan.specs.Fault.{faultAfter}
-use Rattle.fault_cases.specs.declared.reasons.CaseOutcome.{CaseOutcome}
+use Rattle.case_reasons.specs.declared.reasons.CaseOutcome.{CaseOutcome}
 use Rattle.fault_cases.specs.Cases.{casesOf, faultOf}
 use Rattle.case_listing.specs.Listing.{someDetected, clearingCurrent, outcomeAfter, rowFor, caseRow, listed, listing}
 use Rattle.case_steps.specs.declared.open_case.OpenCase.{OpenCase}

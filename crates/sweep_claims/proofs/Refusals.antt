@@ -11,7 +11,8 @@ use Rattle.lists.proofs.Scanning.{left, right, both, or-second}
 use Rattle.grid.specs.declared.parts.SweepOrder.{SweepOrder}
 use Rattle.grid.specs.declared.simulator.DcSwitchingSimulator.{DcSwitchingSimulator}
 use Rattle.timing.specs.Steps.{stepsOf}
-use Rattle.rules.specs.Studies.{sweepRefusal, first, broken, tooManyParts}
+use Rattle.rule_tests.specs.Rules.{tooManyParts}
+use Rattle.rules.specs.Studies.{sweepRefusal, first, broken}
 use Rattle.rule_claims.proofs.Claims.{refusal-claims}
 use Rattle.power_flow.specs.declared.flow.DcGridSolution.{DcGridSolution}
 use Rattle.power_flow.specs.Flow.{solutionOf}

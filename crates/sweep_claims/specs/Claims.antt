@@ -19,7 +19,7 @@ use Rattle.portions.specs.Calls.{Called, Made, Chain, last, reported, and, hand
 use Rattle.portions.specs.Refusals.{RefusedIf}
 use Rattle.runs.specs.Blank.{blankState}
 use Rattle.fault_cases.specs.Cases.{casesOf, faultOf}
-use Rattle.fault_cases.specs.Reasons.{rowLength}
+use Rattle.case_reasons.specs.Reasons.{rowLength}
 use Rattle.case_listing.specs.Listing.{stateAt, listed, listing}
 use Rattle.fault_sweep.specs.declared.sweep.Sweep.{Sweep}
 use Rattle.fault_sweep.specs.KeptSweep.{sweepAfter, stateOfStep}

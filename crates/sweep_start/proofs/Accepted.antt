@@ -8,7 +8,8 @@ use Rattle.lists.proofs.Scanning.{passed}
 use Rattle.grid.specs.declared.parts.SweepOrder.{SweepOrder}
 use Rattle.grid.specs.declared.simulator.DcSwitchingSimulator.{DcSwitchingSimulator}
 use Rattle.part_checks.specs.PartChecks.{orderOk}
-use Rattle.rules.specs.Studies.{broken, noStation, noCable, tooManyParts, stationOutside, cableOutside, breakerOutside, faultOrder, flowRefusal, sweepRefusal}
+use Rattle.rule_tests.specs.Rules.{noStation, noCable, tooManyParts, stationOutside, cableOutside, breakerOutside}
+use Rattle.rules.specs.Studies.{broken, faultOrder, flowRefusal, sweepRefusal}
 use Rattle.rule_claims.proofs.Claims.{refusal-claims}
 
 module _ (g : DcSwitchingSimulator) (o : SweepOrder) (z : sweepRefusal g o ≡ 0) where

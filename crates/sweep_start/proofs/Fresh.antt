@@ -10,7 +10,8 @@ use borrow.Author.Tests.{lt-ltb, eq-eqb, eqb-false, not-true}
 use Rattle.grid.specs.declared.parts.SweepOrder.{SweepOrder}
 use Rattle.grid.specs.declared.simulator.DcSwitchingSimulator.{DcSwitchingSimulator}
 use Rattle.timing.specs.Steps.{stepsOf}
-use Rattle.rules.specs.Studies.{noCable, sweepRefusal, flowRefusal}
+use Rattle.rule_tests.specs.Rules.{noCable}
+use Rattle.rules.specs.Studies.{sweepRefusal, flowRefusal}
 use Rattle.rule_claims.proofs.Claims.{accepted-claims}
 use Rattle.power_flow.specs.declared.flow.DcGridSolution.{DcGridSolution}
 use Rattle.power_flow.specs.Flow.{solutionOf, flowAnswer}

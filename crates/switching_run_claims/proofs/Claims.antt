@@ -5,9 +5,10 @@ use mathlib.Core.Bool.{Bool, true, false}
 use borrow.Author.Tests.{eq-eqb, ne-eqb, le-ltb}
 use Rattle.grid.specs.declared.simulator.DcSwitchingSimulator.{DcSwitchingSimulator}
 use Rattle.timing.specs.Steps.{stepsOf}
-use Rattle.rules.specs.Studies.{switchingRefusal, first, broken, tooManyParts}
+use Rattle.rule_tests.specs.Rules.{tooManyParts}
+use Rattle.rules.specs.Studies.{switchingRefusal, first, broken}
 use Rattle.portions.specs.Calls.{Chain}
-use Rattle.switching_step.specs.Switching.{switchingBody, switchingAfter}
+use Rattle.switching_plan.specs.Switching.{switchingBody, switchingAfter}
 use Rattle.runs.specs.Runs.{Calls, InPortions}
 use Rattle.runs.proofs.Portions.{in-portions}
 use Rattle.switching_runs.specs.SwitchingRuns.{switchingRunRefused, switchingStepper, switchingRunAfter, startedSwitchingRun, blankSwitchingRun, switchingResults}

@@ -9,7 +9,7 @@ use Rattle.timing.specs.Steps.{stepsOf}
 use Rattle.rules.specs.Studies.{switchingRefusal}
 use Rattle.portions.specs.Calls.{Called, Made, Chain}
 use Rattle.portions.specs.Refusals.{RefusedIf}
-use Rattle.switching_step.specs.Switching.{switchingAfter}
+use Rattle.switching_plan.specs.Switching.{switchingAfter}
 use Rattle.runs.specs.Runs.{Run, Calls, InPortions}
 use Rattle.switching_runs.specs.declared.switching_run.SwitchingRun.{SwitchingRun}
 use Rattle.switching_runs.specs.SwitchingRuns.{switchingStepper, switchingRunRefused, switchingRunAfter, startedSwitchingRun, switchingResults}

@@ -15,12 +15,14 @@ use Rattle.grid.specs.declared.parts.ConverterStation.{ConverterStation}
 use Rattle.grid.specs.declared.simulator.DcSwitchingSimulator.{DcSwitchingSimulator}
 use Rattle.timing.specs.Steps.{roundedUp, stepsOf}
 use Rattle.part_checks.specs.PartChecks.{topologyOk, stationOk, cableOk, breakerTypeOk, breakerOk}
-use Rattle.rules.specs.Studies.{first, broken, tooManyParts, timeOutside, tooManySteps, stationOutside, cableOutside, breakerOutside, switchingRefusal}
+use Rattle.rule_tests.specs.Rules.{tooManyParts, timeOutside, tooManySteps, stationOutside, cableOutside, breakerOutside}
+use Rattle.rules.specs.Studies.{first, broken, switchingRefusal}
 use Rattle.portions.specs.Stopping.{joined, advance, answerOf, memoryOf}
 use Rattle.network.specs.Capacitance.{ownCapacitance, joinedCapacitance}
 use Rattle.state_derivatives.specs.Derivatives.{derivatives}
-use Rattle.transient.specs.Rk4.{ahead, blended, rk4, raised, newState, stepBy}
-use Rattle.switching_step.specs.Switching.{operatedState, switchBody, switchingBody, beforeSwitching, switchingAfter}
+use Rattle.rk4_stages.specs.Stages.{ahead, blended}
+use Rattle.transient.specs.Rk4.{rk4, raised, newState, stepBy}
+use Rattle.switching_plan.specs.Switching.{operatedState, switchBody, switchingBody, beforeSwitching, switchingAfter}
 use Rattle.records.specs.Records.{recordWith}
 use Rattle.switching_runs.specs.SwitchingRuns.{switchingRunRefused, nextSwitchingRun, switchingRecords, switchingStepper, switchingRunAfter, startedSwitchingRun, blankSwitchingRun}
 

@@ -12,11 +12,11 @@ use Rattle.rule_claims.proofs.Sizes.{size-claims}
 use Rattle.portions.specs.declared.Stop.{Stop}
 use Rattle.portions.specs.Stopping.{memoryOf}
 use Rattle.portions.proofs.Loop.{Came}
-use Rattle.switching_step.specs.declared.variables.SwitchingVariables.{SwitchingVariables}
-use Rattle.switching_step.specs.declared.plan.SwitchingPlan.{SwitchingPlan}
-use Rattle.switching_step.specs.Switching.{switchingBody}
-use Rattle.switching_step.specs.Plans.{switchingPlanOf, switchingPlanStep}
-use Rattle.switching_step.proofs.Claims.{plan-claims}
+use Rattle.switching_plan.specs.declared.variables.SwitchingVariables.{SwitchingVariables}
+use Rattle.switching_plan.specs.declared.plan.SwitchingPlan.{SwitchingPlan}
+use Rattle.switching_plan.specs.Switching.{switchingBody}
+use Rattle.switching_plan.specs.Plans.{switchingPlanOf, switchingPlanStep}
+use Rattle.switching_step_claims.proofs.Claims.{plan-claims}
 use Rattle.records.specs.Records.{recordOf}
 use Rattle.runs.proofs.Turns.{Stage, Kind, Ready}
 use Rattle.runs.proofs.Refusals.{unbroken}

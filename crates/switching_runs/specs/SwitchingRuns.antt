@@ -10,7 +10,7 @@ use Rattle.grid.specs.declared.simulator.DcSwitchingSimulator.{DcSwitchingSimul
 use Rattle.timing.specs.Steps.{stepsOf, recorded, recordLength}
 use Rattle.rules.specs.Studies.{switchingRefusal}
 use Rattle.portions.specs.Stopping.{Stepper, answerOf}
-use Rattle.switching_step.specs.Switching.{switchingBody, switchingAfter}
+use Rattle.switching_plan.specs.Switching.{switchingBody, switchingAfter}
 use Rattle.switching_runs.specs.declared.switching_run.SwitchingRun.{SwitchingRun}
 use Rattle.switching_runs.specs.declared.switching_run.AdvancedSwitchingRun.{AdvancedSwitchingRun}
 use Rattle.records.specs.Records.{recordOf}

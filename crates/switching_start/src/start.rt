@@ -7,9 +7,9 @@ use rules::Verdict;
 use rules::check_switching;
 use runs::blank_grid;
 use runs::blank_state;
+use switching_plan::SwitchingVariables;
+use switching_plan::first_switching_variables;
 use switching_runs::SwitchingRun;
-use switching_step::SwitchingVariables;
-use switching_step::first_switching_variables;
 
 pub struct StartedSwitchingRun {
     pub verdict: Verdict,

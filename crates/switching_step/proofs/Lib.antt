@@ -1,3 +1,1 @@
-pub mod Claims
 pub mod Tied
-mod Controls

@@ -3,14 +3,14 @@ ghost use mathlib.Core.Path.{_≡_};
 ghost use mathlib.Core.Bool.{not, cond};
 ghost use Prim.Native.Nat.{_≤_, min};
 ghost use Rattle.network.specs.Network.{stationCount, cableCount};
-ghost use Rattle.switching_step.specs.Switching.{isOperated, breakersAfter, interrupted};
-ghost use Rattle.switching_step.specs.Plans.{switchingPlanStep};
-use crate::plan::SwitchingPlan;
-use crate::variables::SwitchingVariables;
+ghost use Rattle.switching_plan.specs.Switching.{isOperated, breakersAfter, interrupted};
+ghost use Rattle.switching_plan.specs.Plans.{switchingPlanStep};
 use grid::present;
 use network::no_drain;
 use run_start::step_time_ms;
 use state_derivatives::DcTransientState;
+use switching_plan::SwitchingPlan;
+use switching_plan::SwitchingVariables;
 use transient::rk4_step;
 
 // One step, numbered from 0.

@@ -1,6 +1,6 @@
 -- `simulate_switching` meets its contract. Assumes nothing.
 use Rattle.switching_runs.specs.SwitchingRuns.{startedSwitchingRun}
-use Rattle.switching_step.specs.Switching.{switchingAfter}
+use Rattle.switching_plan.specs.Switching.{switchingAfter}
 use Rattle.rules.specs.Studies.{switchingRefusal}
 use borrow.Author.Tests.{eq-eqb, ne-eqb}
 use mathlib.Core.Path.{sym, _∙_}

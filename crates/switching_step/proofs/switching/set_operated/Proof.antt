@@ -4,7 +4,7 @@ use Rattle.lists.proofs.Counting.{at-end}
 use native.Mathlib.Omega.{arith}
 use Prim.Native.Nat.{_-_, _≤_}
 use mathlib.Core.Path.{_≡_, _∙_}
-use Rattle.switching_step.specs.Switching.{isOperated}
+use Rattle.switching_plan.specs.Switching.{isOperated}
 use mathlib.Core.Bool.{false, not, cond}
 use lib.ListN.{getD}
 use borrow.Author.Needs.{needs}

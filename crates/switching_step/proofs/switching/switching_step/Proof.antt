@@ -1,6 +1,6 @@
 -- `switching_step` meets its contract. Assumes nothing.
-use Rattle.switching_step.specs.Switching.{switchBody, operatedState}
-use Rattle.switching_step.specs.Plans.{switchingPlanStep}
+use Rattle.switching_plan.specs.Switching.{switchBody, operatedState}
+use Rattle.switching_plan.specs.Plans.{switchingPlanStep}
 use borrow.Author.Needs.{needs}
 use Rattle.switching_step.proofs.switching.switching_step.Statement.{statement}
 use Rattle.switching_step.proofs.switching.switching_step.Tie as tie

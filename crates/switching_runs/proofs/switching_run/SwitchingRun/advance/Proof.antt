@@ -2,7 +2,7 @@
 use Rattle.switching_runs.specs.SwitchingRuns.{switchingStepper}
 use Rattle.runs.proofs.Turns.{Inside, inside, position, out-ok, leaves, counted-on, goes}
 use Rattle.switching_runs.proofs.SwitchingLoop.{switchingKind, ready, by-plan, returned}
-use Rattle.switching_step.specs.Plans.{switchingPlanStep}
+use Rattle.switching_plan.specs.Plans.{switchingPlanStep}
 use Rattle.portions.proofs.Loop.{came-refused}
 use native.Mathlib.Omega.{arith}
 use Rattle.timing.specs.Steps.{mostSteps}

@@ -1,0 +1,36 @@
+-- `slopes_ahead` meets its contract. Assumes nothing.
+use Rattle.float64.specs.Arithmetic.{of}
+use Rattle.network.specs.Network.{stationCount, cableCount, end}
+use Rattle.state_derivatives.specs.Derivatives.{derivatives}
+use Rattle.rk4_stages.specs.Stages.{ahead}
+use native.Mathlib.Omega.{arith}
+use Prim.Native.Nat.{_+_}
+use mathlib.Core.Path.{_∙_}
+use borrow.Author.Needs.{needs}
+use Rattle.rk4_stages.proofs.stages.slopes_ahead.Statement.{statement}
+use Rattle.rk4_stages.proofs.stages.slopes_ahead.Tie as tie
+
+present-requires : tie.Need-present-requires
+present-requires c κs = search needs
+
+present-requires-2 : tie.Need-present-requires-2
+present-requires-2 c κs = search needs
+
+add-size : tie.Need-add-size
+add-size c = omega (arith, c .before .present .ensures, c .present2 .ensures)
+
+move-along-requires : tie.Need-move-along-requires
+move-along-requires c κs = omega (arith, c .before .present .ensures, c .present2 .ensures)
+
+state-derivatives-requires : tie.Need-state-derivatives-requires
+state-derivatives-requires c κs = search needs
+
+returns : tie.Need-returns
+returns c =
+    let p = c .before .before in
+    c .state-derivatives .ensures ∙ rw (c .before .move-along .ensures, p .before .present .ensures, p .present2 .ensures)
+
+pub slopes-ahead-spec : {M : Type 1} → statement M
+slopes-ahead-spec =
+    tie.close
+    (tie.spec present-requires present-requires-2 add-size move-along-requires state-derivatives-requires returns)

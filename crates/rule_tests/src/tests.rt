@@ -1,0 +1,46 @@
+// When the rules 3 to 8 of document 01 are broken.
+ghost use mathlib.Core.Path.{_≡_};
+ghost use Rattle.rule_tests.specs.Rules.{tooManyParts, timeOutside, tooManySteps, stationOutside, cableOutside, breakerOutside};
+use grid::DcSwitchingSimulator;
+use grid::present;
+use ranges::in_range;
+use timing::MOST_STEPS;
+use timing::total_steps;
+
+pub fn too_many_parts(g: DcSwitchingSimulator) -> bool
+    ensures { λ r. ⌜ r ≡ tooManyParts g ⌝ }
+{
+    (32 < g.n_stations) | (64 < g.n_cables) | (32 < g.n_breakers)
+}
+
+pub fn time_outside(g: DcSwitchingSimulator) -> bool
+    ensures { λ r. ⌜ r ≡ timeOutside g ⌝ }
+{
+    let step = in_range(ranges::DT_US, g.dt_us);
+    let duration = in_range(ranges::DURATION_MS, g.duration_ms);
+    !(step & duration)
+}
+
+pub fn too_many_steps(g: DcSwitchingSimulator) -> bool
+    ensures { λ r. ⌜ r ≡ tooManySteps g ⌝ }
+{
+    MOST_STEPS < total_steps(g)
+}
+
+pub fn station_outside(g: DcSwitchingSimulator) -> bool
+    ensures { λ r. ⌜ r ≡ stationOutside g ⌝ }
+{
+    part_positions::first_bad_station(g) < present(g.n_stations, 32)
+}
+
+pub fn cable_outside(g: DcSwitchingSimulator) -> bool
+    ensures { λ r. ⌜ r ≡ cableOutside g ⌝ }
+{
+    part_positions::first_bad_cable(g) < present(g.n_cables, 64)
+}
+
+pub fn breaker_outside(g: DcSwitchingSimulator) -> bool
+    ensures { λ r. ⌜ r ≡ breakerOutside g ⌝ }
+{
+    part_positions::first_bad_breaker(g) < present(g.n_breakers, 32)
+}

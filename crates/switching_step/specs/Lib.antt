@@ -1,4 +1,0 @@
-pub mod Constants
-pub mod Switching
-pub mod Plans
-pub mod Claims

@@ -1,0 +1,1 @@
+// What is worked out once changes nothing. There is no code in this crate.
