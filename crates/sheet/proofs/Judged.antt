@@ -13,7 +13,8 @@ use Rattle.part_checks.specs.PartChecks.{stationOk, cableOk, breakerOk, orderOk
 use Rattle.grid.specs.Simulator.{blankStation, blankCable, blankBreaker}
 use Rattle.grid.specs.declared.simulator.DcSwitchingSimulator.{DcSwitchingSimulator}
 use Rattle.grid.specs.declared.parts.SweepOrder.{SweepOrder}
-use Rattle.rules.specs.Studies.{broken, first, faultOrder, stationOutside, cableOutside, breakerOutside}
+use Rattle.rules.specs.Studies.{broken, first, faultOrder}
+use Rattle.rule_tests.specs.Rules.{stationOutside, cableOutside, breakerOutside}
 use Rattle.sheet_lines.specs.declared.line.SheetLine.{SheetLine}
 use Rattle.sheet_lines.specs.declared.line.SheetLine.the-variants.{Times, Order, Station, Cable, Breaker, Wrong}
 use Rattle.sheet.specs.Ordered.{placeOf, lineRefusal}
