@@ -28,8 +28,7 @@ use Rattle.network.specs.Capacitance.{ownCapacitance, joinedCapacitance}
 use Rattle.network.specs.Network.{drainOf}
 use Rattle.state_derivatives.specs.declared.state.DcTransientState.{DcTransientState}
 use Rattle.state_derivatives.specs.Derivatives.{derivatives}
-use Rattle.rk4_stages.specs.Stages.{ahead, blended}
-use Rattle.transient.specs.Rk4.{rk4, raised, newState, stepBy}
+use Rattle.transient.specs.Rk4.{ahead, blended, rk4, raised, newState, stepBy}
 use Rattle.fault_circuit.specs.Parameters.{parametersAt}
 use Rattle.fault_circuit.specs.Circuit.{responseOf, underdampedResponse, overdampedResponse, typeFactor, circuitAt}
 use Rattle.fault_current.specs.Current.{amperesBy, currentBy, decayedBy}

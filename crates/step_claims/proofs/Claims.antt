@@ -21,8 +21,7 @@ use Rattle.network.specs.Network.{end, networkOf}
 use Rattle.state_derivatives.specs.Derivatives.{net, stationsIn, cablesIn, slopes}
 use Rattle.state_derivatives.specs.OfGrid.{fromOf, toOf, gridDerivatives}
 use Rattle.state_derivatives.proofs.Tables.{stations-in, cables-in, net-is, tableRates, rates-by-tables}
-use Rattle.rk4_stages.specs.Stages.{ahead, blended}
-use Rattle.transient.specs.Rk4.{rk4, raised, newState, stepBy, rk4Step}
+use Rattle.transient.specs.Rk4.{ahead, blended, rk4, raised, newState, stepBy, rk4Step}
 use Rattle.transient.specs.OfGrid.{gridStep}
 use Rattle.step_claims.specs.Claims.{classicalAt, NetworkClaims, StepClaims}
 

@@ -14,8 +14,7 @@ use Rattle.state_derivatives.specs.declared.state.DcTransientState.{DcTransient
 use Rattle.network.specs.Constants.{six}
 use Rattle.network.specs.Network.{networkOf, noDrain}
 use Rattle.state_derivatives.specs.Derivatives.{stationsIn, cablesIn, slopes}
-use Rattle.rk4_stages.specs.Stages.{ahead}
-use Rattle.transient.specs.Rk4.{rk4, rk4Step}
+use Rattle.transient.specs.Rk4.{ahead, rk4, rk4Step}
 use Rattle.transient.specs.OfGrid.{gridStep}
 
 -- what is worked out once for a grid changes no step

@@ -1,4 +1,4 @@
--- Nothing is asked of a caller, but of one that counts a case's steps or has its row written: as Rattle reads the clauses of the contracts in src/. Assumes nothing.
+-- Nothing is asked of a caller, as Rattle reads the clauses of the contracts in src/. Assumes nothing.
 use mathlib.Core.Path.{_≡_}
 use contract.Lifetimes.{Lfts}
 use borrow.Fn.World.{ArgsD, ResD}
@@ -13,6 +13,10 @@ use Rattle.sweep_cases.proofs.cases.common_of.Reads as common-reads
 use Rattle.sweep_cases.proofs.cases.make_steps as steps-contract
 use Rattle.sweep_cases.proofs.cases.make_steps.Kinds as steps-kinds
 use Rattle.sweep_cases.proofs.cases.make_steps.Reads as steps-reads
+use Rattle.sweep_cases.proofs.cases.steps_now as now-contract
+use Rattle.sweep_cases.proofs.cases.steps_now.Reads as now-reads
+use Rattle.sweep_cases.proofs.cases.put_case as put-contract
+use Rattle.sweep_cases.proofs.cases.put_case.Reads as put-reads
 use Rattle.sweep_cases.proofs.cases.open_case as open-contract
 use Rattle.sweep_cases.proofs.cases.open_case.Kinds as open-kinds
 use Rattle.sweep_cases.proofs.cases.open_case.Reads as open-reads
@@ -34,3 +38,9 @@ module _ (κs : Lfts 0) (a : ArgsD steps-contract.signature κs) (r : ResD steps
 module _ (κs : Lfts 0) (a : ArgsD open-contract.signature κs) (r : ResD open-contract.signature κs) (e : AtExit (endedOf 0 open-kinds.ps open-kinds.r) κs) where
   pub open-any : open-reads.Asked κs a
   open-any = tt
+
+pub now-any : (κs : Lfts 0) (a : ArgsD now-contract.signature κs) → now-reads.Asked κs a
+now-any κs a = tt
+
+pub put-any : (κs : Lfts 1) (a : ArgsD put-contract.signature κs) → put-reads.Asked κs a
+put-any κs a = tt

@@ -1,6 +1,9 @@
 -- What an advance works out once, for all cases and for one. Definitions only.
-use Prim.Native.Nat.{ℕ}
-use lib.ListN.{getD}
+use Prim.Native.Nat.{ℕ, _+_, _*_}
+use mathlib.Core.Bool.{Bool}
+use mathlib.Core.List.{List}
+use lib.Dec.{leb}
+use lib.ListN.{length, getD}
 use lib.Ieee.{Float}
 use Rattle.float64.specs.Constants.{nought}
 use Rattle.grid.specs.declared.parts.SweepOrder.{SweepOrder}
@@ -23,3 +26,7 @@ planFor x k = record { constants = constantsOf (x .grid) (faultOf (x .order) k);
 -- the flow's loss in a cable
 abbrev pub lossIn : DcGridSolution → ℕ → Float
 lossIn flow cable = getD (flow .«cable_losses_mw») cable nought
+
+-- a whole row fits behind so many rows
+abbrev pub roomBehind : ℕ → List ℕ → Bool
+roomBehind out rows = leb (8 * out + 8) (length rows)

@@ -1,7 +1,7 @@
 // What an advance does with one case: its steps, its row, and the case that is open next.
 ghost use mathlib.Core.Path.{_≡_};
 ghost use mathlib.Core.Bool.{cond};
-ghost use Prim.Native.Nat.{_+_, _-_, _*_, _<_, _≤_, min};
+ghost use Prim.Native.Nat.{_-_, _*_, min};
 ghost use lib.ListN.{length};
 ghost use lib.Seq.{sets};
 ghost use Rattle.portions.specs.Stopping.{joined};
@@ -9,7 +9,7 @@ ghost use Rattle.portions.specs.Cases.{toList};
 ghost use Rattle.case_steps.specs.OpenCases.{startCase, noCase, outcomeIn};
 ghost use Rattle.case_steps.specs.Plans.{planCaseFrom};
 ghost use Rattle.case_listing.specs.Listing.{rowFor};
-ghost use Rattle.sweep_cases.specs.Plans.{lossIn, commonOf, planFor};
+ghost use Rattle.sweep_cases.specs.Plans.{lossIn, commonOf, planFor, roomBehind};
 use case_reasons::ROW_LENGTH;
 use case_reasons::put_row;
 use case_reasons::reasons_for;
@@ -52,9 +52,8 @@ pub fn common_of(g: DcSwitchingSimulator, order: SweepOrder) -> Common
     }
 }
 
-// How many steps of a case a call makes: all that are left where it closes the case; else what is allowed, but not the last.
+// How many steps of a case a call makes: all that are left where it closes the case; else what is allowed, but not the last. None where none is left.
 pub fn steps_now(closes: bool, left: u64, allowed: u64) -> u64
-    requires { ⌜ 0 < left ⌝ }
     ensures { λ r. ⌜ r ≡ cond closes left (min allowed (left - 1)) ⌝ }
 {
     if closes {
@@ -62,6 +61,9 @@ pub fn steps_now(closes: bool, left: u64, allowed: u64) -> u64
     }
     if allowed < left {
         return allowed;
+    }
+    if left == 0 {
+        return 0;
     }
     left - 1
 }
@@ -84,7 +86,7 @@ pub fn make_steps(common: Common, k: u64, first: u64, end: u64, c: OpenCase) -> 
     case_steps(plan, first, end, c)
 }
 
-// Writes the row of case k behind `out` rows, if it has one, and says how many that were.
+// Writes the row of case k behind `out` rows, if it has one and a whole row fits, and says how many that were.
 pub fn put_case(
     rows: &mut [u64],
     out: usize,
@@ -94,9 +96,11 @@ pub fn put_case(
     k: u64,
     c: OpenCase,
 ) -> usize
-    requires { ⌜ 8 * out + 8 ≤ length (now rows) ⌝ }
-    ensures { λ r. ⌜ (r ≡ length (toList (rowFor g order flow k (outcomeIn c)))) × (now (rows .exit) ≡ sets (now (rows .entry)) (8 * out) (joined (toList (rowFor g order flow k (outcomeIn c))))) ⌝ }
+    ensures { λ r. ⌜ (r ≡ cond (roomBehind out (now (rows .entry))) (length (toList (rowFor g order flow k (outcomeIn c)))) 0) × (now (rows .exit) ≡ cond (roomBehind out (now (rows .entry))) (sets (now (rows .entry)) (8 * out) (joined (toList (rowFor g order flow k (outcomeIn c))))) (now (rows .entry))) ⌝ }
 {
+    if rows.len() / ROW_LENGTH <= out {
+        return 0;
+    }
     let place = case_place(order, k);
     let outcome = case_outcome(c);
     let reasons = reasons_for(g, place.cable, outcome);

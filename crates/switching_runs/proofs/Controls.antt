@@ -20,8 +20,7 @@ use Rattle.rules.specs.Studies.{first, broken, switchingRefusal}
 use Rattle.portions.specs.Stopping.{joined, advance, answerOf, memoryOf}
 use Rattle.network.specs.Capacitance.{ownCapacitance, joinedCapacitance}
 use Rattle.state_derivatives.specs.Derivatives.{derivatives}
-use Rattle.rk4_stages.specs.Stages.{ahead, blended}
-use Rattle.transient.specs.Rk4.{rk4, raised, newState, stepBy}
+use Rattle.transient.specs.Rk4.{ahead, blended, rk4, raised, newState, stepBy}
 use Rattle.switching_plan.specs.Switching.{operatedState, switchBody, switchingBody, beforeSwitching, switchingAfter}
 use Rattle.records.specs.Records.{recordWith}
 use Rattle.switching_runs.specs.SwitchingRuns.{switchingRunRefused, nextSwitchingRun, switchingRecords, switchingStepper, switchingRunAfter, startedSwitchingRun, blankSwitchingRun}

@@ -11,8 +11,7 @@ use Rattle.float64.specs.Constants.{nought, decimal}
 use Rattle.float64.specs.Choice.{maxOf}
 use Rattle.network.specs.Capacitance.{ownCapacitance, joinedCapacitance}
 use Rattle.state_derivatives.specs.Derivatives.{derivatives}
-use Rattle.rk4_stages.specs.Stages.{ahead, blended}
-use Rattle.transient.specs.Rk4.{rk4, raised, newState, stepBy}
+use Rattle.transient.specs.Rk4.{ahead, blended, rk4, raised, newState, stepBy}
 use Rattle.run_start.proofs.Samples.{double, state, stepped, station, cable, breaker, two}
 use Rattle.switching_plan.specs.declared.variables.SwitchingVariables.{SwitchingVariables}
 use Rattle.switching_plan.specs.Switching.{SwitchSetting, isOperated, breakersAfter, interrupted, operatedState, switchBody, switchSettingOf, switchingBody, beforeSwitching, switchingAfter}

@@ -19,8 +19,7 @@ use Rattle.state_derivatives.specs.declared.state.DcTransientState.{DcTransient
 use Rattle.network.specs.Capacitance.{ownCapacitance, joinedCapacitance, capacitanceAt}
 use Rattle.network.specs.Network.{networkOf, noDrain, drainOf}
 use Rattle.state_derivatives.specs.Derivatives.{derivatives}
-use Rattle.rk4_stages.specs.Stages.{ahead, blended}
-use Rattle.transient.specs.Rk4.{rk4, raised, newState, stepBy, rk4Step}
+use Rattle.transient.specs.Rk4.{ahead, blended, rk4, raised, newState, stepBy, rk4Step}
 
 double : ℕ → Float
 double n = ofBits binary64 n

@@ -10,8 +10,7 @@ use Rattle.float64.specs.Constants.{nought, half}
 use Rattle.float64.specs.Arithmetic.{_⊗_, _⊘_, of}
 use Rattle.float64.specs.Choice.{maxOf}
 use Rattle.network.specs.Constants.{six}
-use Rattle.rk4_stages.specs.Stages.{ahead, blended}
-use Rattle.transient.specs.Rk4.{rk4, raised, newState}
+use Rattle.transient.specs.Rk4.{ahead, blended, rk4, raised, newState}
 
 -- the four stages and their sum
 pub rk4-staged : (size : ℕ) (f : List Float → List Float) (dt : Float) (y : List Float) {k1 k2 k3 k4 x : List Float}

@@ -5,16 +5,27 @@ use mathlib.Core.List.{List}
 use lib.Dec.{ltb}
 use lib.Ieee.{Float}
 use Rattle.lists.specs.Tables.{padded}
-use Rattle.float64.specs.Constants.{nought, half}
-use Rattle.float64.specs.Arithmetic.{_⊗_, _⊘_, of}
+use Rattle.float64.specs.Constants.{nought, two, half}
+use Rattle.float64.specs.Arithmetic.{_⊕_, _⊗_, _⊘_, of}
 use Rattle.float64.specs.Choice.{maxOf}
 use Rattle.network.specs.declared.network.Network.{Network}
 use Rattle.network.specs.declared.network.Drain.{Drain}
 use Rattle.state_derivatives.specs.declared.state.DcTransientState.{DcTransientState}
 use Rattle.network.specs.Constants.{six}
 use Rattle.network.specs.Network.{end}
-use Rattle.rk4_stages.specs.Stages.{ahead, blended}
 use Rattle.state_derivatives.specs.Derivatives.{net, stationsIn, cablesIn, slopes}
+
+-- y + h·k, of a state of `size` numbers
+unfoldable pub ahead : ℕ → List Float → Float → List Float → List Float
+ahead size y h k = padded 96 size (λ i. of y i ⊕ h ⊗ of k i) nought
+
+-- k1 + 2·k2 + 2·k3 + k4
+abbrev pub weighted : Float → Float → Float → Float → Float
+weighted k1 k2 k3 k4 = k1 ⊕ two ⊗ k2 ⊕ two ⊗ k3 ⊕ k4
+
+-- y + sixth·(k1 + 2·k2 + 2·k3 + k4)
+unfoldable pub blended : ℕ → List Float → Float → List Float → List Float → List Float → List Float → List Float
+blended size y sixth k1 k2 k3 k4 = padded 96 size (λ i. of y i ⊕ sixth ⊗ weighted (of k1 i) (of k2 i) (of k3 i) (of k4 i)) nought
 
 -- Classical Runge-Kutta for dy/dt = f(y), of a state of `size` numbers: k1 at the start, k2 and k3 half a step on, k4 a whole step on, and y + dt/6·(k1 + 2·k2 + 2·k3 + k4).
 unfoldable pub rk4 : ℕ → (List Float → List Float) → Float → List Float → List Float

@@ -1,18 +1,38 @@
 // One step of classical Runge-Kutta.
 ghost use mathlib.Core.Path.{_≡_};
-ghost use Rattle.transient.specs.Rk4.{rk4Step};
+ghost use Prim.Native.Nat.{_+_, _≤_};
+ghost use lib.Ieee.{nan};
+ghost use Rattle.lists.specs.Tables.{over};
+ghost use Rattle.float64.specs.Constants.{nought};
+ghost use Rattle.float64.specs.Arithmetic.{of};
+ghost use Rattle.float64.specs.Choice.{maxOf};
+ghost use Rattle.network.specs.Network.{stationCount, cableCount, end};
+ghost use Rattle.state_derivatives.specs.Derivatives.{derivatives};
+ghost use Rattle.transient.specs.Rk4.{ahead, blended, weighted, rk4Step};
+use float64::max;
 use grid::present;
 use network::Drain;
 use network::Network;
-use rk4_stages::Stage;
-use rk4_stages::blend;
-use rk4_stages::raise_voltages;
-use rk4_stages::slopes_ahead;
 use state_derivatives::DcTransientState;
 use state_derivatives::StageSetting;
+use state_derivatives::StageSlopes;
 use state_derivatives::StageState;
 use state_derivatives::net_currents;
 use state_derivatives::state_derivatives;
+
+// A stage ahead of the start: so many seconds on.
+struct Stage {
+    setting: StageSetting,
+    ahead_s: f64,
+}
+
+// The slopes of one number of the state.
+struct Slopes {
+    k1: f64,
+    k2: f64,
+    k3: f64,
+    k4: f64,
+}
 
 // DcSwitchingSimulator::rk4_step: k1 at the start, k2 and k3 half a step on, k4 a whole step on, and their blend.
 pub fn rk4_step(
@@ -60,4 +80,92 @@ pub fn rk4_step(
         station_currents_ka: currents,
         ..state
     }
+}
+
+// The slopes at the state that the slopes k lead to.
+fn slopes_ahead(
+    from: &[usize; 64],
+    to: &[usize; 64],
+    r: &[f64; 64],
+    l: &[f64; 64],
+    c: &[f64; 32],
+    stage: Stage,
+    start: StageState,
+    k: StageSlopes,
+) -> StageSlopes
+    ensures { λ s. ⌜ s .dy ≡ derivatives (end (now (from .entry))) (end (now (to .entry))) (of (now (r .entry))) (of (now (l .entry))) (of (now (c .entry))) (stage .setting .drain) (stationCount (stage .setting .n)) (cableCount (stage .setting .m)) (ahead (stationCount (stage .setting .n) + cableCount (stage .setting .m)) (start .y) (stage .«ahead_s») (k .dy)) ⌝ }
+{
+    let setting = stage.setting;
+    let size = present(setting.n, 32) + present(setting.m, 64);
+    let there = move_along(start, stage.ahead_s, k, size);
+    state_derivatives(from, to, r, l, c, setting, there)
+}
+
+// Where the slopes k lead in h seconds.
+fn move_along(start: StageState, h: f64, k: StageSlopes, size: usize) -> StageState
+    requires { ⌜ size ≤ 96 ⌝ }
+    ensures { λ r. ⌜ r .y ≡ ahead size (start .y) h (k .dy) ⌝ }
+{
+    let y = start.y;
+    let dy = k.dy;
+    let mut out = [0.0; 96];
+    let mut i = 0;
+    while i < size {
+        out[i] = y[i] + h * dy[i];
+        i += 1;
+    }
+    StageState { y: out }
+}
+
+// Where the slopes of all four stages together lead, of which a sixth of the step is handed in.
+fn blend(
+    start: StageState,
+    sixth: f64,
+    k1: StageSlopes,
+    k2: StageSlopes,
+    k3: StageSlopes,
+    k4: StageSlopes,
+    size: usize,
+) -> StageState
+    requires { ⌜ size ≤ 96 ⌝ }
+    ensures { λ r. ⌜ r .y ≡ blended size (start .y) sixth (k1 .dy) (k2 .dy) (k3 .dy) (k4 .dy) ⌝ }
+{
+    let y = start.y;
+    let dy1 = k1.dy;
+    let dy2 = k2.dy;
+    let dy3 = k3.dy;
+    let dy4 = k4.dy;
+    let mut out = [0.0; 96];
+    let mut i = 0;
+    while i < size {
+        let s = Slopes {
+            k1: dy1[i],
+            k2: dy2[i],
+            k3: dy3[i],
+            k4: dy4[i],
+        };
+        out[i] = y[i] + sixth * weigh(s);
+        i += 1;
+    }
+    StageState { y: out }
+}
+
+fn weigh(s: Slopes) -> f64
+    ensures { λ r. ⌜ r ≡ weighted (s .k1) (s .k2) (s .k3) (s .k4) ⌝ }
+{
+    s.k1 + 2.0 * s.k2 + 2.0 * s.k3 + s.k4
+}
+
+// New voltages are at least 0.
+fn raise_voltages(moved: StageState, n: usize) -> StageState
+    requires { ⌜ n ≤ 32 ⌝ }
+    ensures { λ r. ⌜ r .y ≡ over n (λ i. maxOf (of (moved .y) i) nought) nan (moved .y) ⌝ }
+{
+    let mut y = moved.y;
+    let mut i = 0;
+    while i < n {
+        y[i] = max(y[i], 0.0);
+        i += 1;
+    }
+    StageState { y }
 }

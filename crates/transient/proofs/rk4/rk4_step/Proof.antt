@@ -1,8 +1,7 @@
 -- `rk4_step` meets its contract. Assumes nothing.
 use Rattle.transient.proofs.Stages.{rk4-staged, rk4-raised}
 use Rattle.state_derivatives.specs.Derivatives.{net, stationsIn, cablesIn, slopes}
-use Rattle.rk4_stages.specs.Stages.{blended}
-use Rattle.transient.specs.Rk4.{newState, stepBy}
+use Rattle.transient.specs.Rk4.{blended, newState, stepBy}
 use Rattle.network.specs.Network.{end}
 use Rattle.float64.specs.Constants.{nought}
 use Rattle.float64.specs.Arithmetic.{_⊘_, of}

@@ -4,8 +4,12 @@ use Rattle.fault_sweep.specs.Advance.{sweepStepper}
 use Rattle.fault_sweep.proofs.SweepLoop.{Inside, inside, few-steps, room, more-rows, leaves, closes, finishes, returned}
 use Rattle.portions.proofs.Loop.{came-refused}
 use native.Mathlib.Omega.{arith}
-use Prim.Native.Nat.{_+_, _-_, _≤_}
-use mathlib.Core.Path.{refl, sym, _∙_}
+use Prim.Native.Nat.{ℕ, _+_, _-_, _≤_}
+use mathlib.Core.Path.{_≡_, refl, sym, _∙_, ap}
+use mathlib.Core.Bool.{cond}
+use mathlib.Core.List.{List}
+use lib.Dec.{leb}
+use borrow.Author.Tests.{le-leb}
 use borrow.Author.Needs.{needs}
 use Rattle.fault_sweep.proofs.sweep.Sweep.advance.Statement.{statement}
 use Rattle.fault_sweep.proofs.sweep.Sweep.advance.Tie as tie
@@ -25,6 +29,10 @@ counted : (c : tie.After-steps-now Inv-loop μ-loop)
     → let l = c .before .before in
     (l .loop .made + c .steps-now .result ≤ 1000000) × (l .loop .steps + c .steps-now .result ≤ start l .args .allowance)
 counted c = let t = c .before in few-steps _ _ _ (t .before .loop .inv) (t .loop-test .taken) _ refl (c .steps-now .result) (c .steps-now .ensures)
+
+-- what is written where a whole row fits
+with-room : (n len r x : ℕ) (m y rows : List ℕ) → n ≤ len → (r ≡ cond (leb n len) x 0) × (m ≡ cond (leb n len) y rows) → (r ≡ x) × (m ≡ y)
+with-room n len r x m y rows h e = (e .0 ∙ ap (λ t. cond t x 0) (le-leb n len h), e .1 ∙ ap (λ t. cond t y rows) (le-leb n len h))
 
 is-broken-requires : tie.Need-is-broken-requires Inv-loop μ-loop
 is-broken-requires c κs = search needs
@@ -56,7 +64,7 @@ sub-allowed : tie.Need-sub-allowed Inv-loop μ-loop
 sub-allowed c = omega (arith, c .before .loop .inv .going .steps-ok)
 
 steps-now-requires : tie.Need-steps-now-requires Inv-loop μ-loop
-steps-now-requires c κs = omega (arith, c .before .loop .inv .made-ok)
+steps-now-requires c κs = tt
 
 add-make-steps : tie.Need-add-make-steps Inv-loop μ-loop
 add-make-steps c = omega (arith, counted c .0)
@@ -71,17 +79,14 @@ add-steps : tie.Need-add-steps Inv-loop μ-loop
 add-steps c = omega (arith, counted (c .before) .1, start (c .before .before .before) .fits .allowance)
 
 put-case-requires : tie.Need-put-case-requires Inv-loop μ-loop
-put-case-requires c κs =
-    let i = c .before in
-    let t = i .before .before .before in
-    room _ _ _ (t .before .loop .inv) (t .loop-test .taken) _ refl (i .if2 .taken)
+put-case-requires c κs = tt
 
 add-out : tie.Need-add-out Inv-loop μ-loop
 add-out c =
     let p = c .before .before in
     let i = p .before .before in
     let t = i .before .before .before in
-    omega (arith, more-rows _ _ _ (t .before .loop .inv) (t .loop-test .taken) _ refl (i .if2 .taken) (i .before .make-steps .result) (p .put-case .result) (p .put-case .ensures .0), start (t .before) .good .1 .1 .0)
+    omega (arith, more-rows _ _ _ (t .before .loop .inv) (t .loop-test .taken) _ refl (i .if2 .taken) (i .before .make-steps .result) (p .put-case .result) ((with-room _ _ _ _ _ _ _ (room _ _ _ (t .before .loop .inv) (t .loop-test .taken) _ refl (i .if2 .taken)) (p .put-case .ensures)) .0), start (t .before) .good .1 .1 .0)
 
 add-k : tie.Need-add-k Inv-loop μ-loop
 add-k c = omega (arith, c .before .before .before .before .before .before .before .loop-test .taken)
@@ -99,7 +104,8 @@ loop-again c =
     let m = i .before in
     let s = m .before in
     let t = s .before in
-    closes _ _ _ (t .before .loop .inv) (t .loop-test .taken) _ refl (i .if2 .taken) (s .steps-now .result) (s .steps-now .ensures) (m .make-steps .result) (m .make-steps .ensures) (p .put-case .result) (p .put-case .ensures .0) _ (p .put-case .ensures .1) _ (c .open-case .ensures)
+    let put = with-room _ _ _ _ _ _ _ (room _ _ _ (t .before .loop .inv) (t .loop-test .taken) _ refl (i .if2 .taken)) (p .put-case .ensures) in
+    closes _ _ _ (t .before .loop .inv) (t .loop-test .taken) _ refl (i .if2 .taken) (s .steps-now .result) (s .steps-now .ensures) (m .make-steps .result) (m .make-steps .ensures) (p .put-case .result) (put .0) _ (put .1) _ (c .open-case .ensures)
 
 reason-requires : tie.Need-reason-requires Inv-loop μ-loop
 reason-requires c κs = search needs

@@ -2,13 +2,13 @@
 use Rattle.float64.specs.Arithmetic.{of}
 use Rattle.network.specs.Network.{stationCount, cableCount, end}
 use Rattle.state_derivatives.specs.Derivatives.{derivatives}
-use Rattle.rk4_stages.specs.Stages.{ahead}
+use Rattle.transient.specs.Rk4.{ahead}
 use native.Mathlib.Omega.{arith}
 use Prim.Native.Nat.{_+_}
 use mathlib.Core.Path.{_∙_}
 use borrow.Author.Needs.{needs}
-use Rattle.rk4_stages.proofs.stages.slopes_ahead.Statement.{statement}
-use Rattle.rk4_stages.proofs.stages.slopes_ahead.Tie as tie
+use Rattle.transient.proofs.rk4.slopes_ahead.Statement.{statement}
+use Rattle.transient.proofs.rk4.slopes_ahead.Tie as tie
 
 present-requires : tie.Need-present-requires
 present-requires c κs = search needs

@@ -1,5 +1,5 @@
 -- `move_along` meets its contract. Assumes nothing.
-use Rattle.rk4_stages.specs.Stages.{ahead}
+use Rattle.transient.specs.Rk4.{ahead}
 use Rattle.float64.specs.Arithmetic.{_⊕_, _⊗_, of}
 use Rattle.float64.specs.Constants.{nought}
 use Rattle.lists.proofs.Fills.{upto, upto-none, upto-more, upto-padded}
@@ -9,8 +9,8 @@ use native.Mathlib.Omega.{arith}
 use Prim.Native.Nat.{_-_, _≤_}
 use mathlib.Core.Path.{_≡_, refl, _∙_}
 use borrow.Author.Needs.{needs}
-use Rattle.rk4_stages.proofs.stages.move_along.Statement.{statement}
-use Rattle.rk4_stages.proofs.stages.move_along.Tie as tie
+use Rattle.transient.proofs.rk4.move_along.Statement.{statement}
+use Rattle.transient.proofs.rk4.move_along.Tie as tie
 
 abbrev Inv-loop : tie.InvT-loop
 Inv-loop h size y dy out₀ i₀ out i = (i ≤ size) × (out ≡ upto i (λ j. of y j ⊕ h ⊗ of dy j) (blank 96 nought))

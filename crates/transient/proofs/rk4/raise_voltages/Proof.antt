@@ -9,8 +9,8 @@ use native.Mathlib.Omega.{arith}
 use Prim.Native.Nat.{_-_, _≤_}
 use mathlib.Core.Path.{_≡_, _∙_}
 use borrow.Author.Needs.{needs}
-use Rattle.rk4_stages.proofs.stages.raise_voltages.Statement.{statement}
-use Rattle.rk4_stages.proofs.stages.raise_voltages.Tie as tie
+use Rattle.transient.proofs.rk4.raise_voltages.Statement.{statement}
+use Rattle.transient.proofs.rk4.raise_voltages.Tie as tie
 
 abbrev Inv-loop : tie.InvT-loop
 Inv-loop n y₀ i₀ y i = (i ≤ n) × (y ≡ upto i (λ k. maxOf (of y₀ k) nought) y₀)

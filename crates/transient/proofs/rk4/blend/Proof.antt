@@ -1,7 +1,7 @@
 -- `blend` meets its contract. Assumes nothing.
 use lib.Ieee.{Float}
 use Prim.Native.Nat.{ℕ, _-_, _≤_}
-use Rattle.rk4_stages.specs.Stages.{weighted, blended}
+use Rattle.transient.specs.Rk4.{weighted, blended}
 use Rattle.float64.specs.Arithmetic.{_⊕_, _⊗_, of}
 use Rattle.float64.specs.Constants.{nought}
 use Rattle.lists.proofs.Fills.{upto, upto-none, upto-more, upto-padded}
@@ -10,8 +10,8 @@ use Rattle.lists.specs.Tables.{blank}
 use native.Mathlib.Omega.{arith}
 use mathlib.Core.Path.{_≡_, _∙_}
 use borrow.Author.Needs.{needs}
-use Rattle.rk4_stages.proofs.stages.blend.Statement.{statement}
-use Rattle.rk4_stages.proofs.stages.blend.Tie as tie
+use Rattle.transient.proofs.rk4.blend.Statement.{statement}
+use Rattle.transient.proofs.rk4.blend.Tie as tie
 
 abbrev Inv-loop : tie.InvT-loop
 Inv-loop sixth size y dy1 dy2 dy3 dy4 out₀ i₀ out i = (i ≤ size) × (out ≡ upto i (λ j. of y j ⊕ sixth ⊗ weighted (of dy1 j) (of dy2 j) (of dy3 j) (of dy4 j)) (blank 96 nought))
