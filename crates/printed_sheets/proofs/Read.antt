@@ -114,4 +114,4 @@ lines-few g o a b c = go (stationsOf g) (cablesOf g) (breakersOf g) a b c
   where
     go : (ss : List ConverterStation) (cs : List DcCable) (bs : List DcBreaker) → length ss ≤ 32 → length cs ≤ 64 → length bs ≤ 32
         → length (Times (g .«dt_us») (g .«duration_ms») ∷ Order o ∷ partLines ss cs bs) ≤ 130
-    go ss cs bs a b c = rw (length-append, length-append, length-append, length-map, length-map, length-map) (omega arith)
+    go ss cs bs a b c = rw (length-append, length-append, length-append, length-map ss stationSaid, length-map cs Cable, length-map bs breakerSaid) (omega arith)
