@@ -85,17 +85,17 @@ unfolding broken tooManyParts timeOutside tooManySteps stepsOf stationOutside ca
 same-rules x g s e k =
     ap (λ rs. getD rs k false)
     (λ i.
-      false ∷
-      eqb (s .«n_stations» i) 0 ∷
-      eqb (s .«n_cables» i) 0 ∷
-      (ltb 32 (s .«n_stations» i) || ltb 64 (s .«n_cables» i) || ltb 32 (s .«n_breakers» i)) ∷
-      not (realIn range.timeStep (s .«dt_us» i) && realIn range.duration (s .«duration_ms» i)) ∷
-      ltb mostSteps (stepsOfQuotient (div binary64 (maxOf (s .«duration_ms» i) leastDuration) (div binary64 (maxOf (s .«dt_us» i) leastTimeStep) k1000))) ∷
-      not (every stationOk (s .stations i)) ∷
-      not (every cableOk (s .cables i)) ∷
-      not (every breakerOk (s .breakers i)) ∷
-      e ∷
-      [])
+    false ∷
+    eqb (s .«n_stations» i) 0 ∷
+    eqb (s .«n_cables» i) 0 ∷
+    (ltb 32 (s .«n_stations» i) || ltb 64 (s .«n_cables» i) || ltb 32 (s .«n_breakers» i)) ∷
+    not (realIn range.timeStep (s .«dt_us» i) && realIn range.duration (s .«duration_ms» i)) ∷
+    ltb mostSteps (stepsOfQuotient (div binary64 (maxOf (s .«duration_ms» i) leastDuration) (div binary64 (maxOf (s .«dt_us» i) leastTimeStep) k1000))) ∷
+    not (every stationOk (s .stations i)) ∷
+    not (every cableOk (s .cables i)) ∷
+    not (every breakerOk (s .breakers i)) ∷
+    e ∷
+    [])
 
 module _ (ls : List SheetLine) (g : DcSwitchingSimulator) (o : SweepOrder) (same : SameGrid (gridIn ls) g) (same-order : orderIn ls ≡ o)
     (six : firstBad badStation 0 ls ≡ 0) (seven : firstBad badCable 0 ls ≡ 0) (eight : firstBad badBreaker 0 ls ≡ 0) where

@@ -5,3 +5,4 @@ pub mod Read
 pub mod Contents
 pub mod Accepted
 pub mod Claims
+mod Controls

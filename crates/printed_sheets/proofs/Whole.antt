@@ -63,8 +63,7 @@ stationReals s =
 pub station-wholes : (s : ConverterStation) → stationOk s ≡ true → Fits (whole (submodulesIn (s .topology))) × Fits (whole (s .id))
 unfolding stationOk
 station-wholes s h =
-    let id-in = wholeIn range.stationId (s .id) in
-    (
+    let id-in = wholeIn range.stationId (s .id) in (
       submodules-fit (s .topology) (right (stationReals s && id-in) (topologyOk (s .topology)) h),
       in-range range.stationId (s .id) (omega arith) (right (stationReals s) id-in (left (stationReals s && id-in) (topologyOk (s .topology)) h)),
     )
@@ -82,8 +81,7 @@ cable-wholes c h =
     let id-in = wholeIn range.cableId (c .id) in
     let from-in = wholeIn range.fromStation (c .«from_station») in
     let to-in = wholeIn range.toStation (c .«to_station») in
-    let l = left (cableReals c && id-in && from-in) to-in h in
-    (
+    let l = left (cableReals c && id-in && from-in) to-in h in (
       in-range range.cableId (c .id) (omega arith) (right (cableReals c) id-in (left (cableReals c && id-in) from-in l)),
       in-range range.fromStation (c .«from_station») (omega arith) (right (cableReals c && id-in) from-in l),
       in-range range.toStation (c .«to_station») (omega arith) (right (cableReals c && id-in && from-in) to-in h),
@@ -97,8 +95,7 @@ pub breaker-wholes : (b : DcBreaker) → breakerOk b ≡ true → Fits (whole (b
 unfolding breakerOk
 breaker-wholes b h =
     let id-in = wholeIn range.breakerId (b .id) in
-    let station-in = wholeIn range.breakerStation (b .«station_id») in
-    (
+    let station-in = wholeIn range.breakerStation (b .«station_id») in (
       in-range range.breakerId (b .id) (omega arith) (right (breakerReals b) id-in (left (breakerReals b && id-in) station-in h)),
       in-range range.breakerStation (b .«station_id») (omega arith) (right (breakerReals b && id-in) station-in h),
     )
@@ -111,8 +108,7 @@ unfolding orderOk
 order-wholes o h =
     let low-in = wholeIn range.lowTenth (o .«low_tenth») in
     let ordered = leb (o .«low_tenth») (o .«high_tenth») in
-    let high-in = wholeIn range.highTenth (o .«high_tenth») in
-    (
+    let high-in = wholeIn range.highTenth (o .«high_tenth») in (
       in-range range.lowTenth (o .«low_tenth») (omega arith) (right (orderReals o) low-in (left (orderReals o && low-in) ordered (left (orderReals o && low-in && ordered) high-in h))),
       in-range range.highTenth (o .«high_tenth») (omega arith) (right (orderReals o && low-in && ordered) high-in h),
     )
