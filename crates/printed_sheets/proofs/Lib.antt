@@ -5,4 +5,5 @@ pub mod Read
 pub mod Contents
 pub mod Accepted
 pub mod Claims
+pub mod Tied
 mod Controls
