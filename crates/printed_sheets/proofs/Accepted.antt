@@ -1,6 +1,6 @@
 -- No rule refuses the lines of an accepted grid and order. Assumes nothing.
 use Prim.Native.Nat.{ℕ, _+_}
-use mathlib.Core.Path.{_≡_, refl, sym, _∙_, ap}
+use mathlib.Core.Path.{_≡_, refl, _∙_, ap}
 use mathlib.Core.Bool.{Bool, true, false, not, _&&_, _||_, cond}
 use mathlib.Core.List.{List, [], _∷_, _++_, map}
 use lib.Dec.{eqb, ltb}
@@ -21,13 +21,11 @@ use Rattle.grid.specs.declared.simulator.DcSwitchingSimulator.{DcSwitchingSimul
 use Rattle.part_checks.specs.PartChecks.{stationOk, cableOk, breakerOk, orderOk}
 use Rattle.rules.specs.Studies.{broken, first, faultOrder, sweepRefusal, tooManyParts, timeOutside, tooManySteps, stationOutside, cableOutside, breakerOutside}
 use Rattle.timing.specs.Steps.{k1000, stepsOfQuotient, stepsOf, mostSteps}
-use Rattle.rule_claims.specs.Claims.{Decides}
 use Rattle.rule_claims.proofs.Claims.{refusal-claims}
 use Rattle.rule_claims.proofs.Deciding.{decides}
 use Rattle.sheet_lines.specs.declared.line.SheetLine.{SheetLine}
-use Rattle.sheet_lines.specs.declared.line.SheetLine.the-variants.{Times, Order, Station, Cable, Breaker}
-use Rattle.sheet.specs.Sheets.{none, refused, formRefusal, orderIn, gridIn, badStation, badCable, badBreaker, firstBad, sheetBroken, shownAt, refusalOf, answered}
-use Rattle.sheet.specs.declared.answers.SheetAnswer.{SheetAnswer}
+use Rattle.sheet_lines.specs.declared.line.SheetLine.the-variants.{Times, Order, Cable}
+use Rattle.sheet.specs.Sheets.{none, formRefusal, orderIn, gridIn, badStation, badCable, badBreaker, firstBad, sheetBroken, shownAt, refusalOf, answered}
 use Rattle.printed_sheets.specs.Claims.{SameGrid}
 use Rattle.printed_sheets.proofs.Read.{stationSaid, breakerSaid, partLines, sheetLines}
 

@@ -1,7 +1,6 @@
 -- The claim of specs/Claims. Assumes nothing.
-use Prim.Native.Nat.{ℕ, _≤_}
-use mathlib.Core.Path.{_≡_, refl, sym, _∙_, ap, subst}
-use mathlib.Core.List.{List}
+use Prim.Native.Nat.{_≤_}
+use mathlib.Core.Path.{_≡_, sym, _∙_, ap, subst}
 use native.Mathlib.Omega.{arith}
 use lib.ListN.{length}
 use lib.Seq.{length-take-le}
@@ -13,11 +12,10 @@ use Rattle.rules.specs.Studies.{sweepRefusal}
 use Rattle.rule_claims.specs.Claims.{Sizes}
 use Rattle.rule_claims.proofs.Sizes.{size-claims}
 use Rattle.columns.specs.declared.fields.Decimal.{Decimal}
-use Rattle.sheet_lines.specs.declared.line.SheetLine.{SheetLine}
-use Rattle.sheet.specs.Sheets.{none, orderIn, gridIn, refusalOf, answered, said, sheetAnswer}
+use Rattle.sheet.specs.Sheets.{none, orderIn, gridIn, refusalOf, answered, sheetAnswer}
 use Rattle.sheet.specs.declared.answers.SheetAnswer.{SheetAnswer}
 use Rattle.printed_sheets.specs.Printing.{printedSheet}
-use Rattle.printed_sheets.specs.Claims.{SixPlaces, Made, SameGrid, BlankPast, ReadsBack, RoundTripClaims}
+use Rattle.printed_sheets.specs.Claims.{SixPlaces, Made, SameGrid, ReadsBack, RoundTripClaims}
 use Rattle.printed_sheets.proofs.Read.{sheetLines, read-as, lines-few}
 use Rattle.printed_sheets.proofs.Contents.{lines-in-order, lines-hold, order-held, same-grid, whole-grid}
 use Rattle.printed_sheets.proofs.Accepted.{stations-ok, cables-ok, breakers-ok, order-ok, answered-with, good-stations, good-cables, good-breakers}

@@ -1,15 +1,14 @@
 -- The order of a printed sheet's lines, and the grid and the order that they make. Assumes nothing.
 use Prim.Native.Nat.{ℕ, _+_, _≤_, _<_}
 use mathlib.Core.Path.{_≡_, refl, sym, _∙_, ap}
-use mathlib.Core.Bool.{Bool, true, false, not, _&&_, cond}
+use mathlib.Core.Bool.{cond}
 use mathlib.Core.List.{List, [], _∷_, _++_, map, append-nil}
 use native.Mathlib.Omega.{arith}
-use lib.Dec.{eqb, ltb, leb}
+use lib.Dec.{eqb}
 use lib.ListN.{length, take, replicate}
 use lib.Seq.{take-append-le, take-take, take-all, length-take-le}
-use lib.Ieee.{Float}
 use borrow.Author.Tests.{ne-eqb, le-ltb, le-leb}
-use Rattle.grid.specs.Simulator.{stationsOf, cablesOf, breakersOf, blankStation, blankCable, blankBreaker, keptTimeStep, keptDuration, newSimulator}
+use Rattle.grid.specs.Simulator.{stationsOf, cablesOf, breakersOf, blankStation, blankCable, blankBreaker, newSimulator}
 use Rattle.grid.specs.declared.parts.ConverterStation.{ConverterStation}
 use Rattle.grid.specs.declared.parts.DcCable.{DcCable}
 use Rattle.grid.specs.declared.parts.DcBreaker.{DcBreaker}
@@ -17,7 +16,7 @@ use Rattle.grid.specs.declared.parts.SweepOrder.{SweepOrder}
 use Rattle.grid.specs.declared.simulator.DcSwitchingSimulator.{DcSwitchingSimulator}
 use Rattle.float64.specs.Constants.{nought}
 use Rattle.sheet_lines.specs.declared.line.SheetLine.{SheetLine}
-use Rattle.sheet_lines.specs.declared.line.SheetLine.the-variants.{Times, Order, Station, Cable, Breaker}
+use Rattle.sheet_lines.specs.declared.line.SheetLine.the-variants.{Cable}
 use Rattle.sheet.specs.Ordered.{placeOf, inOrder, lineRefusal}
 use Rattle.sheet.specs.Sheets.{none, refused, formRefusal, stationsIn, cablesIn, breakersIn, newFrom, orderFrom, orderIn, laid, gridIn}
 use Rattle.printed_sheets.specs.Claims.{Made, SameGrid, BlankPast}

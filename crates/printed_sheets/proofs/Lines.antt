@@ -1,22 +1,20 @@
 -- A printed line: its fields, its form, and that it ends where it ends. Assumes nothing.
 use Prim.Native.Nat.{ℕ, zero, suc, _+_, _*_, _<_, _≤_}
-use mathlib.Core.Path.{_≡_, refl, sym, _∙_, ap, subst}
+use mathlib.Core.Path.{_≡_, refl, sym, _∙_, ap}
 use mathlib.Core.Logic.{_⊎_, inl, inr}
 use mathlib.Core.Bool.{Bool, true, false, not, _&&_, _||_, cond, true≢false}
 use mathlib.Core.List.{List, [], _∷_, _++_, append-assoc}
 use native.Mathlib.Omega.{arith}
-use lib.Dec.{eqb, ltb, leb}
+use lib.Dec.{eqb, ltb}
 use lib.ListN.{length, take, drop, getD, replicate, length-append}
 use lib.Seq.{take-at, drop-append-add, getD-append-seam}
-use lib.Ieee.{Float}
 use borrow.Author.Tests.{eq-eqb, ne-eqb, eqb-true, ltb-true, not-true, not-false}
 use Rattle.lists.specs.Scans.{every, some, each}
 use Rattle.lists.proofs.Scanning.{left, right, both, every-of}
-use Rattle.columns.specs.Fields.{isDigit, someDigits, fieldOf, wholeOf, realOf, asWhole, asReal, valueOf}
+use Rattle.columns.specs.Fields.{isDigit, someDigits, wholeOf, realOf, asWhole, valueOf}
 use Rattle.columns.specs.Printed.{printedDecimal}
 use Rattle.columns.specs.Claims.{Plain, Pointed}
 use Rattle.columns.specs.declared.fields.Decimal.{Decimal}
-use Rattle.columns.specs.declared.fields.Field.the-variants.{Number}
 use Rattle.columns.specs.declared.fields.WholeField.the-variants.{Whole, Wrong}
 use Rattle.columns.specs.declared.fields.RealField.the-variants.{Real}
 use Rattle.columns.proofs.Digit.{digit-at-least}

@@ -1,12 +1,12 @@
 -- Each printed line says its part. Assumes nothing.
 use Prim.Native.Nat.{ℕ, _<_}
-use mathlib.Core.Path.{_≡_, refl, sym, _∙_, ap}
-use mathlib.Core.Bool.{Bool, true, false, not, _&&_, _||_, cond}
+use mathlib.Core.Path.{_≡_, refl, _∙_, ap}
+use mathlib.Core.Bool.{true, false, not, _&&_, _||_, cond}
 use mathlib.Core.List.{List, [], _∷_, _++_}
 use native.Mathlib.Omega.{arith}
 use lib.Dec.{eqb, leb}
 use lib.ListN.{getD}
-use lib.Ieee.{Float, binary64, eq, round, ofBits}
+use lib.Ieee.{Float, eq, round, ofBits}
 use Rattle.lists.proofs.Scanning.{or-second}
 use Rattle.float64.specs.Constants.{nought}
 use Rattle.grid.specs.declared.parts.ConverterTopology.{ConverterTopology}
@@ -21,7 +21,6 @@ use Rattle.part_checks.specs.PartChecks.{stationOk, cableOk, breakerOk, orderOk
 use Rattle.columns.specs.Fields.{valueOf}
 use Rattle.columns.specs.declared.fields.Decimal.{Decimal}
 use Rattle.sheet_lines.specs.Fields as read
-use Rattle.sheet_lines.specs.Fields.{formed}
 use Rattle.sheet_lines.specs.Lines.{letterT, letterO, letterS, letterC, letterB, timesForm, orderForm, stationForm, cableForm, breakerForm, timesLine, orderLine, stationLine, cableLine, breakerLine, orderIn, topologyOf, stationIn, stationKnown, cableIn, breakerTypeOf, breakerIn, breakerKnown, lineOf}
 use Rattle.sheet_lines.specs.declared.line.SheetLine.{SheetLine}
 use Rattle.sheet_lines.specs.declared.line.SheetLine.the-variants.{Times, Order, Station, Cable, Breaker, Wrong}

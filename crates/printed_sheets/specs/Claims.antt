@@ -1,5 +1,5 @@
 -- A printed sheet reads back to its grid and order, where the numbers have at most six places. The proof is in proofs/Claims.antt.
-use Prim.Native.Nat.{ℕ, _≤_}
+use Prim.Native.Nat.{_≤_}
 use mathlib.Core.Path.{_≡_}
 use mathlib.Core.List.{List, [], _∷_}
 use lib.ListN.{length}
