@@ -1,12 +1,12 @@
 -- The order of a printed sheet's lines, and the grid and the order that they make. Assumes nothing.
-use Prim.Native.Nat.{ℕ, _+_, _≤_, _<_}
+use Prim.Native.Nat.{ℕ, zero, suc, _+_, _-_, _≤_, _<_}
 use mathlib.Core.Path.{_≡_, refl, sym, _∙_, ap}
 use mathlib.Core.Bool.{cond}
 use mathlib.Core.List.{List, [], _∷_, _++_, map, append-nil}
 use native.Mathlib.Omega.{arith}
 use lib.Dec.{eqb}
-use lib.ListN.{length, take, replicate}
-use lib.Seq.{take-append-le, take-take, take-all, length-take-le}
+use lib.ListN.{length, take, drop, replicate, take-append-drop}
+use lib.Seq.{take-append-le, take-append-add, take-take, take-all, length-take-le}
 use borrow.Author.Tests.{ne-eqb, le-ltb, le-leb}
 use Rattle.grid.specs.Simulator.{stationsOf, cablesOf, breakersOf, blankStation, blankCable, blankBreaker, newSimulator}
 use Rattle.grid.specs.declared.parts.ConverterStation.{ConverterStation}
@@ -113,6 +113,21 @@ order-held g o = parts-passed (stationsOf g) (cablesOf g) (breakersOf g) (orderF
 
 -- ---- the grid
 
+take-blank : {A : Type 0} (z : A) (m k : ℕ) → m ≤ k → take m (replicate k z) ≡ replicate m z
+take-blank z zero k h = refl
+take-blank z (suc m) zero h = absurd (omega arith)
+take-blank {A} z (suc m) (suc k) h = ap {B = List A} (λ r. z ∷ r) (take-blank z m k (omega arith))
+
+-- an array of m with blanks from n on is laid from its first n
+laid-again : {A : Type 0} (z : A) (m n : ℕ) (l : List A) → length l ≡ m → n ≤ m → drop n l ≡ replicate (m - n) z → laid m z (take n l) ≡ l
+laid-again z m n l w h e =
+    let k : length (take n l) ≡ n = length-take-le n l (omega arith) in
+    let parted : m ≡ length (take n l) + (m - n) = omega arith in
+    ap (λ j. take j (take n l ++ replicate m z)) parted
+    ∙ take-append-add (take n l) (replicate m z) (m - n)
+    ∙ ap (λ ys. take n l ++ ys) (take-blank z (m - n) m (omega arith) ∙ sym e)
+    ∙ take-append-drop n l
+
 -- an array that has room for a list has it in front
 laid-front : {A : Type 0} (m : ℕ) (z : A) (xs : List A) → length xs ≤ m → take (length xs) (laid m z xs) ≡ xs
 laid-front m z xs h = take-take (length xs) m (xs ++ replicate m z) (omega arith) ∙ take-append-le (length xs) xs (replicate m z) (omega arith) ∙ take-all (length xs) xs (omega arith)
@@ -155,9 +170,9 @@ module _ (ls : List SheetLine) (g : DcSwitchingSimulator) (h : Holds ls g) (made
     unfolding gridIn
     whole-grid b = λ i.
         record {
-          stations = (ap (laid 32 blankStation) (h .stations) ∙ sym (b .stations)) i;
-          cables = (ap (laid 64 blankCable) (h .cables) ∙ sym (b .cables)) i;
-          breakers = (ap (laid 32 blankBreaker) (h .breakers) ∙ sym (b .breakers)) i;
+          stations = (ap (laid 32 blankStation) (h .stations) ∙ laid-again blankStation 32 (g .«n_stations») (g .stations) (made .stations) few-stations (b .stations)) i;
+          cables = (ap (laid 64 blankCable) (h .cables) ∙ laid-again blankCable 64 (g .«n_cables») (g .cables) (made .cables) few-cables (b .cables)) i;
+          breakers = (ap (laid 32 blankBreaker) (h .breakers) ∙ laid-again blankBreaker 32 (g .«n_breakers») (g .breakers) (made .breakers) few-breakers (b .breakers)) i;
           «n_stations» = count-stations i;
           «n_cables» = count-cables i;
           «n_breakers» = count-breakers i;

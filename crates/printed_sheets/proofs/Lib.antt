@@ -5,5 +5,6 @@ pub mod Read
 pub mod Contents
 pub mod Accepted
 pub mod Claims
+pub mod Made
 pub mod Tied
 mod Controls

@@ -1,10 +1,10 @@
 -- A printed sheet reads back to its grid and order, where the numbers have at most six places. The proof is in proofs/Claims.antt.
-use Prim.Native.Nat.{_≤_}
+use Prim.Native.Nat.{_-_, _≤_}
 use mathlib.Core.Path.{_≡_}
 use mathlib.Core.List.{List, [], _∷_}
-use lib.ListN.{length}
+use lib.ListN.{length, drop, replicate}
 use lib.Ieee.{Float}
-use Rattle.grid.specs.Simulator.{stationsOf, cablesOf, breakersOf, keptTimeStep, keptDuration, blankStation, blankCable, blankBreaker}
+use Rattle.grid.specs.Simulator.{stationsOf, cablesOf, breakersOf, keptTimeStep, keptDuration, blankStation, blankCable, blankBreaker, newSimulator, withStation, withCable, withBreaker}
 use Rattle.grid.specs.declared.parts.DcBreakerType.{DcBreakerType}
 use Rattle.grid.specs.declared.parts.DcBreakerType.the-variants.{Mechanical, SolidState, HybridBreaker}
 use Rattle.grid.specs.declared.parts.ConverterStation.{ConverterStation}
@@ -16,7 +16,7 @@ use Rattle.rules.specs.Studies.{sweepRefusal}
 use Rattle.columns.specs.Fields.{valueOf}
 use Rattle.columns.specs.Claims.{Holds12}
 use Rattle.columns.specs.declared.fields.Decimal.{Decimal}
-use Rattle.sheet.specs.Sheets.{none, laid, sheetAnswer}
+use Rattle.sheet.specs.Sheets.{none, sheetAnswer}
 use Rattle.printed_sheets.specs.Printing.{printedSheet}
 
 -- ---- what has at most six places
@@ -95,11 +95,18 @@ pub record SameGrid (h g : DcSwitchingSimulator) : Type 0 where
   pub cables : cablesOf h ≡ cablesOf g
   pub breakers : breakersOf h ≡ breakersOf g
 
--- blanks stand past the counts, as in a grid that `new` and the functions that add a part have made
+-- blanks stand past the counts
 pub record BlankPast (g : DcSwitchingSimulator) : Type 0 where
-  pub stations : g .stations ≡ laid 32 blankStation (stationsOf g)
-  pub cables : g .cables ≡ laid 64 blankCable (cablesOf g)
-  pub breakers : g .breakers ≡ laid 32 blankBreaker (breakersOf g)
+  pub stations : drop (g .«n_stations») (g .stations) ≡ replicate (32 - g .«n_stations») blankStation
+  pub cables : drop (g .«n_cables») (g .cables) ≡ replicate (64 - g .«n_cables») blankCable
+  pub breakers : drop (g .«n_breakers») (g .breakers) ≡ replicate (32 - g .«n_breakers») blankBreaker
+
+-- both hold of what `new` makes, and stay so with a part more
+pub record MadeClaims : Type 0 where
+  pub new : (dt duration : Float) → Made (newSimulator dt duration) × BlankPast (newSimulator dt duration)
+  pub station : (g : DcSwitchingSimulator) (s : ConverterStation) → Made g → BlankPast g → Made (withStation g s .grid) × BlankPast (withStation g s .grid)
+  pub cable : (g : DcSwitchingSimulator) (c : DcCable) → Made g → BlankPast g → Made (withCable g c .grid) × BlankPast (withCable g c .grid)
+  pub breaker : (g : DcSwitchingSimulator) (b : DcBreaker) → Made g → BlankPast g → Made (withBreaker g b .grid) × BlankPast (withBreaker g b .grid)
 
 -- ---- the claim
 
