@@ -1,4 +1,4 @@
--- The claim of specs/Claims. Assumes nothing.
+-- The round trip of specs/Claims. Assumes nothing.
 use Prim.Native.Nat.{_≤_}
 use mathlib.Core.Path.{_≡_, sym, _∙_, ap, subst}
 use native.Mathlib.Omega.{arith}

@@ -190,3 +190,8 @@ blank-past = record { stations = refl; cables = refl; breakers = refl }
 
 whole-back : sheetAnswer (printedSheet spell grid order) .grid ≡ grid
 whole-back = example-back .whole-grid blank-past
+
+-- a time step of 0.05 is no time that `new` keeps
+raised : keptTimeStep (decimal 5 100) ≡ decimal 1 10
+unfolding keptTimeStep realIn maxOf isNan le lt eq ofInt ofBits round
+raised = refl

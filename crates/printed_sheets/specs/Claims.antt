@@ -1,4 +1,4 @@
--- A printed sheet reads back to its grid and order, where the numbers have at most six places. The proof is in proofs/Claims.antt.
+-- A printed sheet reads back to its grid and order, where the numbers have at most six places. The proofs are in proofs/Claims.antt and proofs/Made.antt.
 use Prim.Native.Nat.{_-_, _≤_}
 use mathlib.Core.Path.{_≡_}
 use mathlib.Core.List.{List, [], _∷_}
