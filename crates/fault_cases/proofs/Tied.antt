@@ -8,6 +8,8 @@ use Rattle.fault_cases.proofs.cases.case_place as case-place-contract
 use Rattle.fault_cases.proofs.cases.case_place.Reads as case-place-reads
 use Rattle.fault_cases.proofs.cases.fault_at as fault-at-contract
 use Rattle.fault_cases.proofs.cases.fault_at.Reads as fault-at-reads
+use Rattle.fault_cases.proofs.cases.tenth_count as tenth-count-contract
+use Rattle.fault_cases.proofs.cases.tenth_count.Reads as tenth-count-reads
 
 module _ (κs : Lfts 0) where
   pub case-count-any : (a : ArgsD case-count-contract.signature κs) → case-count-reads.Asked κs a
@@ -18,3 +20,6 @@ module _ (κs : Lfts 0) where
 
   pub fault-at-any : (a : ArgsD fault-at-contract.signature κs) → fault-at-reads.Asked κs a
   fault-at-any a = tt
+
+  pub tenth-count-any : (a : ArgsD tenth-count-contract.signature κs) → tenth-count-reads.Asked κs a
+  tenth-count-any a = tt

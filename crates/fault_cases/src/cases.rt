@@ -26,7 +26,7 @@ pub struct CasePlace {
 }
 
 // How many tenths an order tries; 1 where its tenths are refused by rule 9, so that every order has cases that can be numbered.
-fn tenth_count(o: SweepOrder) -> u64
+pub fn tenth_count(o: SweepOrder) -> u64
     ensures { λ r. ⌜ r ≡ tenthsOf o ⌝ }
 {
     if o.high_tenth < o.low_tenth {

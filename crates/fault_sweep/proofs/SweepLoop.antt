@@ -10,7 +10,7 @@ use mathlib.Core.List.{List}
 use lib.Dec.{eqb, leb, ltb}
 use lib.ListN.{length}
 use lib.Seq.{sets}
-use borrow.Author.Tests.{eq-eqb, eqb-true, leb-true, ltb-true, eqb-false, leb-false, ltb-false, not-false}
+use borrow.Author.Tests.{eq-eqb, ne-eqb, eqb-true, leb-true, ltb-true, eqb-false, leb-false, ltb-false, not-false}
 use Rattle.lists.proofs.Counting.{by-test, contrary}
 use Rattle.lists.proofs.Scanning.{left, right}
 use Rattle.grid.specs.declared.parts.SweepOrder.{SweepOrder}
@@ -35,7 +35,11 @@ use Rattle.case_steps.specs.declared.open_case.OpenCase.{OpenCase}
 use Rattle.case_steps.specs.OpenCases.{startCase, noCase, outcomeIn, caseFrom}
 use Rattle.case_steps.specs.Plans.{planCaseFrom}
 use Rattle.case_claims.proofs.Claims.{case-claims}
+use Rattle.case_reasons.specs.declared.reasons.CaseOutcome.{CaseOutcome}
 use Rattle.sweep_cases.specs.declared.cases.Common.{Common}
+use Rattle.closed_cases.specs.declared.cable.CableEnds.{CableEnds}
+use Rattle.closed_cases.specs.Cables.{noCable, heldFor, closedBy}
+use Rattle.closed_cases.proofs.Closed.{Holding, still-holding, closed-is}
 use Rattle.fault_sweep.specs.declared.sweep.Sweep.{Sweep}
 use Rattle.fault_sweep.specs.declared.sweep.AdvancedSweep.{AdvancedSweep}
 use Rattle.fault_sweep.specs.KeptSweep.{keptAt}
@@ -64,7 +68,7 @@ module _ (g : DcSwitchingSimulator) (o : SweepOrder) (flow : DcGridSolution) whe
       (λ t. rw t))
 
   -- what the loop knows: what was worked out before it, and the call so far
-  pub record Inside (s₀ : Sweep) (allowance : ℕ) (lent₀ : List ℕ) (n cases space : ℕ) (common : Common) (lent : List ℕ) (k made : ℕ) (c : OpenCase) (steps out : ℕ) : Type 0 where
+  pub record Inside (s₀ : Sweep) (allowance : ℕ) (lent₀ : List ℕ) (n cases space : ℕ) (common : Common) (lent : List ℕ) (k made : ℕ) (c : OpenCase) (fresh : Bool) (ends : CableEnds) (steps out : ℕ) : Type 0 where
     pub accepted : sweepRefusal g o ≡ 0
     pub n-is : n ≡ stepsOf g
     pub few : n ≤ mostSteps
@@ -74,9 +78,11 @@ module _ (g : DcSwitchingSimulator) (o : SweepOrder) (flow : DcGridSolution) whe
     pub going : Going sweepStepper s₀ allowance lent₀ (keptAt g o flow k made c) lent steps out
     pub number-ok : k ≤ cases
     pub made-ok : made < n
+    pub ends-are : Holding g o ends
+    pub fresh-is : fresh ≡ true → k < cases → (made ≡ 0) × (c ≡ startCase g)
 
-  module _ {s₀ : Sweep} {allowance : ℕ} {lent₀ : List ℕ} {n cases space : ℕ} {common : Common} {lent : List ℕ} {k made : ℕ} {c : OpenCase} {steps out : ℕ}
-      (i : Inside s₀ allowance lent₀ n cases space common lent k made c steps out) where
+  module _ {s₀ : Sweep} {allowance : ℕ} {lent₀ : List ℕ} {n cases space : ℕ} {common : Common} {lent : List ℕ} {k made : ℕ} {c : OpenCase} {fresh : Bool} {ends : CableEnds} {steps out : ℕ}
+      (i : Inside s₀ allowance lent₀ n cases space common lent k made c fresh ends steps out) where
     -- no case is left
     pub finishes : cases ≤ k → Came sweepStepper s₀ allowance lent₀ steps out Finished (keptAt g o flow k made c) lent
     finishes l = came-finished sweepStepper (i .going) (eq-eqb k (casesOf g o) (omega (arith, i .number-ok, i .cases-are)))
@@ -88,76 +94,82 @@ module _ (g : DcSwitchingSimulator) (o : SweepOrder) (flow : DcGridSolution) whe
         let z = size-claims .sweep g o (i .accepted) in
         e ∙ ap (λ (x : Common). planCaseFrom (planFor x k) made c m) (i .common-is) ∙ case-claims .by-plan g (faultOf o k) (z .stations) (z .cables) made c m
 
-    module _ (l : k < cases) (b : Bool) (is-b : b ≡ (leb (n - made) (allowance - steps) && ltb out space)) where
+    module _ (l : k < cases) (b : Bool) (is-b : (leb (n - made) (allowance - steps) && ltb out space) ≡ b) where
       open-here : k < casesOf g o
       open-here = omega (arith, i .cases-are)
 
       few-made : made < stepsOf g
       few-made = omega (arith, i .made-ok, i .n-is)
 
-      test-is : b ≡ (leb (stepsOf g - made) (allowance - steps) && ltb out (length lent₀ / 8))
-      test-is = is-b ∙ rw (i .n-is, i .space-is)
+      test-is : (leb (stepsOf g - made) (allowance - steps) && ltb out (length lent₀ / 8)) ≡ b
+      test-is = rw (← i .n-is, ← i .space-is) is-b
 
-      -- no more steps than are left, and no more than are allowed
-      pub few-steps : (m : ℕ) → m ≡ cond b (n - made) (min (allowance - steps) (n - made - 1)) → (made + m ≤ mostSteps) × (steps + m ≤ allowance)
-      few-steps m is-m =
-          by-test b
-          (λ e.
-          let q : m ≡ n - made = is-m ∙ rw e in
-          let t = leb-true (n - made) (allowance - steps) (left (leb (n - made) (allowance - steps)) (ltb out space) (sym is-b ∙ e)) in
-          (omega (arith, i .made-ok, i .few), omega (arith, i .going .steps-ok)))
-          (λ e.
-          let q : m ≡ min (allowance - steps) (n - made - 1) = is-m ∙ rw e in
-          (omega (arith, i .made-ok, i .few), omega (arith, i .going .steps-ok)))
+      -- ---- the call closes the case
 
-      -- a row has its space
-      pub room : b ≡ true → 8 * out + 8 ≤ length lent
-      room h =
-          room-fits sweepStepper (i .going)
-          (rw (i .space-is) at (ltb-true out space (right (leb (n - made) (allowance - steps)) (ltb out space) (sym is-b ∙ h))))
+      module _ (h : b ≡ true) where
+        -- its steps are allowed
+        pub steps-allowed : steps + (n - made) ≤ allowance
+        steps-allowed =
+            let t = leb-true (n - made) (allowance - steps) (left (leb (n - made) (allowance - steps)) (ltb out space) (is-b ∙ h)) in
+            omega (arith, i .going .steps-ok)
 
-      -- and the rows can be counted
-      pub more-rows : b ≡ true → (c′ : OpenCase) (w : ℕ) → w ≡ length (toList (rowFor g o flow k (outcomeIn c′))) → out + w ≤ length lent₀
-      more-rows h c′ w is-w =
-          let r = rw (i .space-is) at (ltb-true out space (right (leb (n - made) (allowance - steps)) (ltb out space) (sym is-b ∙ h))) in
-          omega (arith, one-at-most (rowFor g o flow k (outcomeIn c′)), div-le-self (length lent₀) 8)
+        in-space : out < space
+        in-space = ltb-true out space (right (leb (n - made) (allowance - steps)) (ltb out space) (is-b ∙ h))
 
-      -- the call leaves the case open
-      pub leaves : b ≡ false → (m : ℕ) → m ≡ cond b (n - made) (min (allowance - steps) (n - made - 1)) → (c′ : OpenCase) → c′ ≡ planCaseFrom (planFor common k) made c (made + m - made)
-          → Came sweepStepper s₀ allowance lent₀ (steps + m) out (reasonOf false (eqb (steps + m) allowance)) (keptAt g o flow k (made + m) c′) lent
-      unfolding swept
-      leaves h m is-m c′ is-c =
-          let short : m ≡ min (allowance - steps) (stepsOf g - made - 1) = is-m ∙ rw (h, i .n-is) in
-          let e : made + m - made ≡ m = omega arith in
-          let same : c′ ≡ caseFrom g (faultOf o k) made c m = by-plan m c′ (is-c ∙ rw e) in
-          rw (same, short, ← from-is g o flow (i .accepted) (min (allowance - steps) (stepsOf g - made - 1)) k made c)
-          (leaves-it (swept g o flow (i .accepted)) k made c (i .going) open-here few-made refl (sym test-is ∙ h))
+        -- its row has its space
+        pub room : 8 * out + 8 ≤ length lent
+        room = room-fits sweepStepper (i .going) (rw (i .space-is) at in-space)
 
-      -- the call closes it
-      pub closes : b ≡ true → (m : ℕ) → m ≡ cond b (n - made) (min (allowance - steps) (n - made - 1)) → (c′ : OpenCase) → c′ ≡ planCaseFrom (planFor common k) made c (made + m - made)
-          → (w : ℕ) → w ≡ length (toList (rowFor g o flow k (outcomeIn c′)))
-          → (lent′ : List ℕ) → lent′ ≡ sets lent (8 * out) (joined (toList (rowFor g o flow k (outcomeIn c′))))
-          → (d : OpenCase) → d ≡ cond (eqb (k + 1) cases) noCase (startCase g)
-          → Inside s₀ allowance lent₀ n cases space common lent′ (k + 1) 0 d (steps + m) (out + w)
-      unfolding swept
-      closes h m is-m c′ is-c w is-w lent′ is-lent d is-d =
-          let N = stepsOf g in
-          let all : m ≡ N - made = is-m ∙ rw (h, i .n-is) in
-          let e : made + m - made ≡ m = omega arith in
-          let same : c′ ≡ caseFrom g (faultOf o k) made c m = by-plan m c′ (is-c ∙ rw e) in
-          let there : strides.caseFrom (swept g o flow (i .accepted)) k made c (N - made) ≡ c′ = from-is g o flow (i .accepted) (N - made) k made c ∙ rw (← all) (sym same) in
-          let gone = closes-it (swept g o flow (i .accepted)) k made c (i .going) open-here few-made refl (sym test-is ∙ h) (λ r q. row-eight g o flow k _ r q) lent′ (is-lent ∙ rw there) in
-          record {
-            accepted = i .accepted;
-            n-is = i .n-is;
-            few = i .few;
-            cases-are = i .cases-are;
-            space-is = i .space-is;
-            common-is = i .common-is;
-            going = rw (opened-is k d (is-d ∙ rw (i .cases-are)), all, is-w, ← there) gone;
-            number-ok = omega arith;
-            made-ok = omega (arith, i .made-ok);
-          }
+        -- and the rows can be counted
+        pub more-rows : (x : CaseOutcome) (w : ℕ) → w ≡ length (toList (rowFor g o flow k x)) → out + w ≤ length lent₀
+        more-rows x w is-w =
+            let r = rw (i .space-is) at in-space in
+            omega (arith, one-at-most (rowFor g o flow k x), div-le-self (length lent₀) 8)
+
+        pub closes : (ends′ : CableEnds) → ends′ ≡ heldFor common ends k (allowance - steps) (space - out)
+            → (x : CaseOutcome) → x ≡ closedBy common ends′ fresh k made c
+            → (w : ℕ) → w ≡ length (toList (rowFor g o flow k x))
+            → (lent′ : List ℕ) → lent′ ≡ sets lent (8 * out) (joined (toList (rowFor g o flow k x)))
+            → (d : OpenCase) → d ≡ cond (eqb (k + 1) cases) noCase (startCase g)
+            → Inside s₀ allowance lent₀ n cases space common lent′ (k + 1) 0 d true ends′ (steps + (n - made)) (out + w)
+        unfolding swept
+        closes ends′ is-ends x is-x w is-w lent′ is-lent d is-d =
+            let N = stepsOf g in
+            let holding = still-holding g o ends k (allowance - steps) (space - out) (i .ends-are) in
+            let here : ends′ ≡ heldFor (commonOf g o) ends k (allowance - steps) (space - out) = is-ends ∙ rw (i .common-is) in
+            let same : x ≡ outcomeIn (caseFrom g (faultOf o k) made c (N - made)) =
+                is-x ∙ rw (here, i .common-is) (closed-is g o (i .accepted) k made c fresh (heldFor (commonOf g o) ends k (allowance - steps) (space - out)) holding (λ f. i .fresh-is f l)) in
+            let there : strides.caseFrom (swept g o flow (i .accepted)) k made c (N - made) ≡ caseFrom g (faultOf o k) made c (N - made) = from-is g o flow (i .accepted) (N - made) k made c in
+            let gone = closes-it (swept g o flow (i .accepted)) k made c (i .going) open-here few-made refl (test-is ∙ h) (λ r q. row-eight g o flow k _ r q) lent′ (is-lent ∙ rw (same, there)) in
+            record {
+              accepted = i .accepted;
+              n-is = i .n-is;
+              few = i .few;
+              cases-are = i .cases-are;
+              space-is = i .space-is;
+              common-is = i .common-is;
+              going = rw (opened-is k d (is-d ∙ rw (i .cases-are)), i .n-is, is-w, same, ← there) gone;
+              number-ok = omega arith;
+              made-ok = omega (arith, i .made-ok);
+              ends-are = rw here holding;
+              fresh-is = λ f more. (refl, is-d ∙ rw (ne-eqb (k + 1) cases (λ z. omega arith)));
+            }
+
+      -- ---- the call leaves it open
+
+      module _ (h : b ≡ false) (m : ℕ) (is-m : m ≡ min (allowance - steps) (n - made - 1)) where
+        pub few-steps : (made + m ≤ mostSteps) × (steps + m ≤ allowance)
+        few-steps = (omega (arith, i .made-ok, i .few), omega (arith, i .going .steps-ok))
+
+        pub leaves : (c′ : OpenCase) → c′ ≡ planCaseFrom (planFor common k) made c (made + m - made)
+            → Came sweepStepper s₀ allowance lent₀ (steps + m) out (reasonOf false (eqb (steps + m) allowance)) (keptAt g o flow k (made + m) c′) lent
+        unfolding swept
+        leaves c′ is-c =
+            let short : m ≡ min (allowance - steps) (stepsOf g - made - 1) = is-m ∙ rw (i .n-is) in
+            let e : made + m - made ≡ m = omega arith in
+            let same : c′ ≡ caseFrom g (faultOf o k) made c m = by-plan m c′ (is-c ∙ rw e) in
+            rw (same, short, ← from-is g o flow (i .accepted) (min (allowance - steps) (stepsOf g - made - 1)) k made c)
+            (leaves-it (swept g o flow (i .accepted)) k made c (i .going) open-here few-made refl (test-is ∙ h))
 
 neither : (a b : Bool) → (a || b) ≡ false → (a ≡ false) × (b ≡ false)
 neither true b h = (h, contrary refl h)
@@ -176,7 +188,7 @@ module _ (s : Sweep) (h : sweepBroken s ≡ false) where
       (eqb-true r 0 (not-false (eqb r 0) (c .0)), ltb-false n (s .«case_number») (c .1), leb-false (stepsOf (s .grid)) (s .«steps_made») (b .1))
 
   pub inside : (allowance : ℕ) (lent₀ : List ℕ) (n cases : ℕ) (common : Common) → n ≡ countedTo (stepsOf (s .grid)) → cases ≡ casesOf (s .grid) (s .order) → common ≡ commonOf (s .grid) (s .order)
-      → Inside (s .grid) (s .order) (s .flow) s allowance lent₀ n cases (length lent₀ / 8) common lent₀ (s .«case_number») (s .«steps_made») (s .«open_case») 0 0
+      → Inside (s .grid) (s .order) (s .flow) s allowance lent₀ n cases (length lent₀ / 8) common lent₀ (s .«case_number») (s .«steps_made») (s .«open_case») false noCable 0 0
   inside allowance lent₀ n cases common is-n are-cases is-common =
       let steps = accepted-claims .sweep (s .grid) (s .order) (let-through .0) in
       let e : n ≡ stepsOf (s .grid) = is-n ∙ step-claims .counted (stepsOf (s .grid)) steps in
@@ -190,4 +202,6 @@ module _ (s : Sweep) (h : sweepBroken s ≡ false) where
         going = going-start sweepStepper s allowance lent₀ h;
         number-ok = rw are-cases (let-through .1);
         made-ok = rw e (let-through .2);
+        ends-are = λ h. contrary h refl;
+        fresh-is = λ h. contrary h refl;
       }

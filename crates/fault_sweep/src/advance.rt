@@ -5,6 +5,9 @@ ghost use Rattle.fault_sweep.specs.Advance.{sweepBroken, sweepStepper, a
 use crate::sweep::AdvancedSweep;
 use crate::sweep::Sweep;
 use case_reasons::ROW_LENGTH;
+use closed_cases::closed_outcome;
+use closed_cases::ends_held;
+use closed_cases::no_cable_ends;
 use fault_cases::case_count;
 use portions::Stop;
 use portions::reason;
@@ -13,11 +16,12 @@ use sweep_cases::common_of;
 use sweep_cases::make_steps;
 use sweep_cases::open_case;
 use sweep_cases::put_case;
-use sweep_cases::steps_now;
+use sweep_cases::steps_left_open;
 use timing::total_steps;
 
 impl Sweep {
-    // Makes at most `allowance` steps one by one, and writes the rows of the cases that they close.
+    // Makes at most `allowance` steps, and writes the rows of the cases that they close. A case that stays open has its steps made one by
+    // one; of one that is closed only what its row is read from is worked out.
     pub fn advance(self, allowance: u64, rows: &mut [u64]) -> AdvancedSweep
         ensures { λ r. ⌜ (r ≡ advancedSweep self allowance (now (rows .entry))) × (now (rows .exit) ≡ memoryOf sweepStepper self allowance (now (rows .entry))) ⌝ }
     {
@@ -39,34 +43,37 @@ impl Sweep {
         let mut k = self.case_number;
         let mut made = self.steps_made;
         let mut c = self.open_case;
+        // The case that is open was opened by this call, and none of its steps is made.
+        let mut fresh = false;
+        let mut ends = no_cable_ends();
         let mut steps: u64 = 0;
         let mut out: usize = 0;
         while k < cases {
             let left = n - made;
             let allowed = allowance - steps;
             // Known before its steps are made: the call closes the case, or leaves it open.
-            let closes = (left <= allowed) & (out < space);
-            let count = steps_now(closes, left, allowed);
-            c = make_steps(common, k, made, made + count, c);
-            made += count;
-            steps += count;
-            if closes {
-                out += put_case(rows, out, g, order, flow, k, c);
+            if (left <= allowed) & (out < space) {
+                ends = ends_held(common, ends, k, allowed, space - out);
+                let outcome = closed_outcome(common, ends, fresh, k, made, c);
+                out += put_case(rows, out, g, order, flow, k, outcome);
+                steps += left;
                 k += 1;
                 made = 0;
                 c = open_case(g, k == cases);
+                fresh = true;
             } else {
+                let count = steps_left_open(left, allowed);
                 return AdvancedSweep {
-                    stop: reason(false, steps == allowance),
-                    steps,
+                    stop: reason(false, steps + count == allowance),
+                    steps: steps + count,
                     rows: out as u64,
                     sweep: Sweep {
                         grid: g,
                         order,
                         flow,
                         case_number: k,
-                        steps_made: made,
-                        open_case: c,
+                        steps_made: made + count,
+                        open_case: make_steps(common, k, made, made + count, c),
                     },
                 };
             }

@@ -13,8 +13,10 @@ use sheet::SheetAnswer;
 use sweep_start::start_sweep;
 use timing::total_steps;
 
-// Cases of no more steps are closed 64 at a time, so that a call is not long and its rows come soon.
-const SHORT_CASE: u64 = 1_024;
+// No case has more steps.
+const MOST_STEPS: u64 = 1_000_000;
+// A cable has no more cases: three types at eleven tenths.
+const CASES_OF_CABLE: u64 = 33;
 
 // Prints the listing of a sheet, or by what it is refused. Of the rules a sheet does not show 10: it has no line.
 pub fn print_answer(answer: SheetAnswer) {
@@ -36,12 +38,19 @@ pub fn print_answer(answer: SheetAnswer) {
     print_cases(s);
 }
 
-// How many steps a call is allowed: those of one case, or of as many short ones as it has room for the rows of.
-fn allowance_of(steps_of_case: u64) -> u64 {
-    if steps_of_case > SHORT_CASE {
+// How many steps a call is allowed: those of all cases of a cable, which are worked out together.
+fn allowance_of(cases: u64, cables: usize, steps_of_case: u64) -> u64 {
+    if cables == 0 {
         return steps_of_case;
     }
-    64 * steps_of_case
+    let of_cable = cases / cables as u64;
+    if of_cable > CASES_OF_CABLE {
+        return steps_of_case;
+    }
+    if steps_of_case > MOST_STEPS {
+        return steps_of_case;
+    }
+    of_cable * steps_of_case
 }
 
 // More steps. Their sum is far from the largest u64.
@@ -64,7 +73,7 @@ fn print_cases(start: Sweep) {
     let order = start.order;
     let cases = case_count(grid, order);
     let steps_of_case = total_steps(grid);
-    let allowance = allowance_of(steps_of_case);
+    let allowance = allowance_of(cases, grid.n_cables, steps_of_case);
     let long = is_long(cases, steps_of_case);
     let mut memory = [0u64; MEMORY];
     let mut s = start;

@@ -6,7 +6,7 @@ use listing_text::refusal_text;
 use listing_text::row_text;
 
 const ROW_LENGTH: usize = 8;
-// The rows of 64 cases, which is as many as a call closes.
+// Of 64 rows, which is more than a cable has cases.
 pub const MEMORY: usize = 512;
 // Where the last of them starts.
 const LAST: usize = MEMORY - ROW_LENGTH;

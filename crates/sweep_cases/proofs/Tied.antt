@@ -13,8 +13,10 @@ use Rattle.sweep_cases.proofs.cases.common_of.Reads as common-reads
 use Rattle.sweep_cases.proofs.cases.make_steps as steps-contract
 use Rattle.sweep_cases.proofs.cases.make_steps.Kinds as steps-kinds
 use Rattle.sweep_cases.proofs.cases.make_steps.Reads as steps-reads
-use Rattle.sweep_cases.proofs.cases.steps_now as now-contract
-use Rattle.sweep_cases.proofs.cases.steps_now.Reads as now-reads
+use Rattle.sweep_cases.proofs.cases.steps_left_open as now-contract
+use Rattle.sweep_cases.proofs.cases.steps_left_open.Reads as now-reads
+use Rattle.sweep_cases.proofs.cases.plan_at as plan-contract
+use Rattle.sweep_cases.proofs.cases.plan_at.Reads as plan-reads
 use Rattle.sweep_cases.proofs.cases.put_case as put-contract
 use Rattle.sweep_cases.proofs.cases.put_case.Reads as put-reads
 use Rattle.sweep_cases.proofs.cases.open_case as open-contract
@@ -41,6 +43,9 @@ module _ (κs : Lfts 0) (a : ArgsD open-contract.signature κs) (r : ResD open-c
 
 pub now-any : (κs : Lfts 0) (a : ArgsD now-contract.signature κs) → now-reads.Asked κs a
 now-any κs a = tt
+
+pub plan-any : (κs : Lfts 0) (a : ArgsD plan-contract.signature κs) → plan-reads.Asked κs a
+plan-any κs a = tt
 
 pub put-any : (κs : Lfts 1) (a : ArgsD put-contract.signature κs) → put-reads.Asked κs a
 put-any κs a = tt

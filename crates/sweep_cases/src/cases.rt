@@ -6,28 +6,34 @@ ghost use lib.ListN.{length};
 ghost use lib.Seq.{sets};
 ghost use Rattle.portions.specs.Stopping.{joined};
 ghost use Rattle.portions.specs.Cases.{toList};
-ghost use Rattle.case_steps.specs.OpenCases.{startCase, noCase, outcomeIn};
+ghost use Rattle.case_steps.specs.OpenCases.{startCase, noCase};
 ghost use Rattle.case_steps.specs.Plans.{planCaseFrom};
 ghost use Rattle.case_listing.specs.Listing.{rowFor};
-ghost use Rattle.sweep_cases.specs.Plans.{lossIn, commonOf, planFor, roomBehind};
+ghost use Rattle.sweep_cases.specs.Plans.{lossIn, commonOf, planAt, planFor, roomBehind};
+use breaker_times::fastest_breaker_clearing_ms;
+use case_reasons::CaseOutcome;
 use case_reasons::ROW_LENGTH;
 use case_reasons::put_row;
 use case_reasons::reasons_for;
 use case_steps::OpenCase;
-use case_steps::case_outcome;
 use case_steps::case_steps;
 use case_steps::first_open_case;
 use case_steps::no_open_case;
+use fault_cases::CasePlace;
 use fault_cases::case_place;
 use fault_cases::fault_at;
 use fault_plan::FaultPlan;
 use fault_plan::fault_constants;
+use fault_window::Window;
+use fault_window::fault_window;
 use grid::DcSwitchingSimulator;
 use grid::SweepOrder;
 use network::Network;
 use network::network_of;
 use power_flow::DcGridSolution;
 use run_start::rated_voltages;
+use timing::time_step_ms;
+use timing::total_steps;
 
 const MOST_CABLES: u64 = 64;
 
@@ -37,6 +43,10 @@ pub struct Common {
     pub order: SweepOrder,
     pub network: Network,
     pub rated_kv: [f64; 96],
+    // Of a case.
+    pub n_steps: u64,
+    // The steps in which the fault of a case lasts, of a case from its first step: the same for each.
+    pub window: Window,
 }
 
 pub fn common_of(g: DcSwitchingSimulator, order: SweepOrder) -> Common
@@ -44,21 +54,29 @@ pub fn common_of(g: DcSwitchingSimulator, order: SweepOrder) -> Common
 {
     let network = network_of(g);
     let rated_kv = rated_voltages(g);
+    let n_steps = total_steps(g);
+    let window = fault_window(
+        time_step_ms(g),
+        order.inception_time_ms,
+        fastest_breaker_clearing_ms(g),
+        false,
+        0,
+        n_steps,
+    );
     Common {
         grid: g,
         order,
         network,
         rated_kv,
+        n_steps,
+        window,
     }
 }
 
-// How many steps of a case a call makes: all that are left where it closes the case; else what is allowed, but not the last. None where none is left.
-pub fn steps_now(closes: bool, left: u64, allowed: u64) -> u64
-    ensures { λ r. ⌜ r ≡ cond closes left (min allowed (left - 1)) ⌝ }
+// How many steps of a case a call makes that leaves it open: what is allowed, but not the last. None where none is left.
+pub fn steps_left_open(left: u64, allowed: u64) -> u64
+    ensures { λ r. ⌜ r ≡ min allowed (left - 1) ⌝ }
 {
-    if closes {
-        return left;
-    }
     if allowed < left {
         return allowed;
     }
@@ -72,18 +90,25 @@ pub fn steps_now(closes: bool, left: u64, allowed: u64) -> u64
 pub fn make_steps(common: Common, k: u64, first: u64, end: u64, c: OpenCase) -> OpenCase
     ensures { λ r. ⌜ r ≡ planCaseFrom (planFor common k) first c (end - first) ⌝ }
 {
+    let order = common.order;
+    let plan = plan_at(common, case_place(order, k));
+    case_steps(plan, first, end, c)
+}
+
+// What stays the same in the steps of the case at a place.
+pub fn plan_at(common: Common, place: CasePlace) -> FaultPlan
+    ensures { λ r. ⌜ r ≡ planAt common place ⌝ }
+{
     let g = common.grid;
     let order = common.order;
     let network = common.network;
     let rated_kv = common.rated_kv;
-    let fault = fault_at(order, case_place(order, k));
-    let constants = fault_constants(g, fault);
-    let plan = FaultPlan {
+    let constants = fault_constants(g, fault_at(order, place));
+    FaultPlan {
         constants,
         network,
         rated_kv,
-    };
-    case_steps(plan, first, end, c)
+    }
 }
 
 // Writes the row of case k behind `out` rows, if it has one and a whole row fits, and says how many that were.
@@ -94,15 +119,14 @@ pub fn put_case(
     order: SweepOrder,
     flow: DcGridSolution,
     k: u64,
-    c: OpenCase,
+    outcome: CaseOutcome,
 ) -> usize
-    ensures { λ r. ⌜ (r ≡ cond (roomBehind out (now (rows .entry))) (length (toList (rowFor g order flow k (outcomeIn c)))) 0) × (now (rows .exit) ≡ cond (roomBehind out (now (rows .entry))) (sets (now (rows .entry)) (8 * out) (joined (toList (rowFor g order flow k (outcomeIn c))))) (now (rows .entry))) ⌝ }
+    ensures { λ r. ⌜ (r ≡ cond (roomBehind out (now (rows .entry))) (length (toList (rowFor g order flow k outcome))) 0) × (now (rows .exit) ≡ cond (roomBehind out (now (rows .entry))) (sets (now (rows .entry)) (8 * out) (joined (toList (rowFor g order flow k outcome)))) (now (rows .entry))) ⌝ }
 {
     if rows.len() / ROW_LENGTH <= out {
         return 0;
     }
     let place = case_place(order, k);
-    let outcome = case_outcome(c);
     let reasons = reasons_for(g, place.cable, outcome);
     put_row(
         rows,

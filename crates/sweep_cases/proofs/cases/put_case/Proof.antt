@@ -5,7 +5,6 @@ use native.Mathlib.Omega.{arith}
 use mathlib.Core.Path.{refl}
 use Rattle.fault_cases.specs.Cases.{placeOf}
 use Rattle.case_listing.specs.Listing.{rowFor}
-use Rattle.case_steps.specs.OpenCases.{outcomeIn}
 use Rattle.sweep_cases.specs.Plans.{lossIn}
 use Rattle.sweep_cases.proofs.Rows.{row-count, row-numbers}
 use Prim.Native.Nat.{_+_, _*_, _<_, _≤_}
@@ -23,9 +22,6 @@ returns c =
 
 case-place-requires : tie.Need-case-place-requires
 case-place-requires c κs = search needs
-
-case-outcome-requires : tie.Need-case-outcome-requires
-case-outcome-requires c κs = search needs
 
 reasons-for-requires : tie.Need-reasons-for-requires
 reasons-for-requires c κs = search needs
@@ -48,14 +44,13 @@ returns-2 c =
     let p = c .before .before in
     let f = p .before in
     let r = f .before .before in
-    let x = r .before in
-    let k = x .before in
+    let k = r .before in
     let a = k .before .before .before .args in
     let q = p .put-row .ensures in
     let room : 8 * a .out + 8 ≤ length (a .rows .now) = omega (arith, k .before .if1 .left) in
     rw (le-leb (8 * a .out + 8) (length (a .rows .now)) room) (
-      q .0 ∙ rw (r .reasons-for .ensures, x .case-outcome .ensures, k .case-place .ensures) (row-count (placeOf (a .order) (a .k)) _ (outcomeIn (a .c)) (lossIn (a .flow) (placeOf (a .order) (a .k) .cable)) (8 * a .out) (length (a .rows .now)) room),
-      q .1 ∙ rw (f .loss-of .ensures, r .reasons-for .ensures, x .case-outcome .ensures, k .case-place .ensures) (ap (sets (a .rows .now) (8 * a .out)) (row-numbers (placeOf (a .order) (a .k)) _ (outcomeIn (a .c)) (lossIn (a .flow) (placeOf (a .order) (a .k) .cable)) (8 * a .out) (length (a .rows .now)) room)),
+      q .0 ∙ rw (r .reasons-for .ensures, k .case-place .ensures) (row-count (placeOf (a .order) (a .k)) _ (a .outcome) (lossIn (a .flow) (placeOf (a .order) (a .k) .cable)) (8 * a .out) (length (a .rows .now)) room),
+      q .1 ∙ rw (f .loss-of .ensures, r .reasons-for .ensures, k .case-place .ensures) (ap (sets (a .rows .now) (8 * a .out)) (row-numbers (placeOf (a .order) (a .k)) _ (a .outcome) (lossIn (a .flow) (placeOf (a .order) (a .k) .cable)) (8 * a .out) (length (a .rows .now)) room)),
     )
 
 pub put-case-spec : {M : Type 1} → statement M
@@ -64,7 +59,6 @@ put-case-spec =
     (tie.spec
     returns
     case-place-requires
-    case-outcome-requires
     reasons-for-requires
     mul-put-row
     loss-of-requires

@@ -1,0 +1,157 @@
+//! Times the program `sweep` on five sheets beside `sheet_sweep`, which runs the published fault run for each case: from the start of
+//! each process to its end, the best of some rounds in turns. Their listings must be the same.
+
+use std::fmt::Write as _;
+use std::io::Write as _;
+use std::path::PathBuf;
+use std::process::{exit, Command, Stdio};
+use std::time::Instant;
+use std::{env, thread};
+
+const USAGE: &str = "sheet_speed PROGRAM [ROUNDS [NAME..]]   times PROGRAM on five sheets, or those of the names, beside sheet_sweep";
+
+/// A sheet that is timed: tenths 1 to 10 of each cable, in steps of a microsecond.
+struct Timed {
+    name: &'static str,
+    /// Stations, cables, breakers.
+    counts: [u64; 3],
+    steps: u64,
+    ohms: u64,
+    clearing_ms: &'static str,
+}
+
+const NEVER_MS: &str = "10000";
+
+const SHEETS: [Timed; 5] = [
+    Timed {
+        name: "pair",
+        counts: [2, 1, 2],
+        steps: 200_000,
+        ohms: 10,
+        clearing_ms: NEVER_MS,
+    },
+    Timed {
+        name: "planner",
+        counts: [12, 16, 12],
+        steps: 25_000,
+        ohms: 10,
+        clearing_ms: "0.1",
+    },
+    Timed {
+        name: "planner-late",
+        counts: [12, 16, 12],
+        steps: 5_000,
+        ohms: 10,
+        clearing_ms: NEVER_MS,
+    },
+    Timed {
+        name: "full",
+        counts: [32, 64, 32],
+        steps: 1_000,
+        ohms: 10,
+        clearing_ms: NEVER_MS,
+    },
+    Timed {
+        name: "weak",
+        counts: [12, 16, 12],
+        steps: 5_000,
+        ohms: 1_000_000,
+        clearing_ms: NEVER_MS,
+    },
+];
+
+impl Timed {
+    /// A ring of stations with chords, of the four topologies in turn and without load.
+    fn text(&self) -> String {
+        let [n, cables, breakers] = self.counts;
+        let mut text = String::new();
+        line(&mut text, 'T', &["1".into(), ms(self.steps)]);
+        line(
+            &mut text,
+            'O',
+            &[self.ohms.to_string(), "0".into(), "1".into(), "10".into()],
+        );
+        for i in 0..n {
+            let modules = if i % 4 == 2 { 200 } else { 0 };
+            let mut fields = vec![(i % 4).to_string(), modules.to_string(), i.to_string()];
+            fields.extend(["320", "0", "0.15", "3", "15", "0.1", "50", "10000"].map(String::from));
+            line(&mut text, 'S', &fields);
+        }
+        for k in 0..cables {
+            let mut fields = [k, k % n, (k + 1 + k / n * 4) % n].map(|x| x.to_string()).to_vec();
+            fields.extend(["0.01", "0.5", "0.2", "100"].map(String::from));
+            line(&mut text, 'C', &fields);
+        }
+        for k in 0..breakers {
+            let mut fields = [k, k, 0].map(|x| x.to_string()).to_vec();
+            fields.extend([self.clearing_ms, "0", "16", "10"].map(String::from));
+            line(&mut text, 'B', &fields);
+        }
+        text
+    }
+}
+
+fn line(text: &mut String, letter: char, fields: &[String]) {
+    text.push(letter);
+    for field in fields {
+        write!(text, "{field:>12}").expect("a string takes it");
+    }
+    text.push('\n');
+}
+
+/// So many microseconds, in milliseconds.
+fn ms(us: u64) -> String {
+    format!("{}.{:03}", us / 1000, us % 1000)
+}
+
+/// What a program prints for a sheet, and its seconds.
+fn run(program: &PathBuf, sheet: &str) -> (Vec<u8>, f64) {
+    let began = Instant::now();
+    let mut child = Command::new(program)
+        .stdin(Stdio::piped())
+        .stdout(Stdio::piped())
+        .stderr(Stdio::null())
+        .spawn()
+        .expect("the program starts");
+    let mut input = child.stdin.take().expect("it is piped");
+    let bytes = sheet.as_bytes().to_vec();
+    let writer = thread::spawn(move || input.write_all(&bytes));
+    let output = child.wait_with_output().expect("the program ends");
+    let took = began.elapsed().as_secs_f64();
+    writer.join().expect("it ends").expect("the program reads its input");
+    (output.stdout, took)
+}
+
+fn main() {
+    let words: Vec<String> = env::args().skip(1).collect();
+    let Some(program) = words.first().map(PathBuf::from) else {
+        eprintln!("{USAGE}");
+        exit(2);
+    };
+    let rounds = words.get(1).map_or(3, |w| w.parse().unwrap_or(3)).max(1);
+    let names = words.get(2..).unwrap_or_default();
+    let own = env::current_exe().expect("it has a path").with_file_name("sheet_sweep");
+    println!("{:<13} {:>14} {:>12} {:>12} {:>8}", "sheet", "cases x steps", "sweep, ms", "Rust, ms", "times");
+    for sheet in SHEETS {
+        if !names.is_empty() && !names.iter().any(|name| name == sheet.name) {
+            continue;
+        }
+        let text = sheet.text();
+        let (mut best, mut right) = (f64::MAX, f64::MAX);
+        for _ in 0..rounds {
+            let (expected, b) = run(&own, &text);
+            right = right.min(b);
+            // Ours is short: a few rounds for each of the other's.
+            for _ in 0..5 {
+                let (listing, a) = run(&program, &text);
+                if listing != expected {
+                    println!("{}: the listings differ", sheet.name);
+                    exit(1);
+                }
+                best = best.min(a);
+            }
+        }
+        let size = format!("{} x {}", sheet.counts[1] * 30, sheet.steps);
+        println!("{:<13} {:>14} {:>12.2} {:>12.1} {:>8.1}", sheet.name, size, best * 1e3, right * 1e3, right / best);
+    }
+}
