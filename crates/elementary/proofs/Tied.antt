@@ -18,6 +18,8 @@ use Rattle.elementary.proofs.wave.sin.Reads as sin-reads
 use Rattle.elementary.proofs.wave.cos as cos-contract
 use Rattle.elementary.proofs.wave.cos.Kinds as cos-kinds
 use Rattle.elementary.proofs.wave.cos.Reads as cos-reads
+use Rattle.elementary.proofs.wave.reduced_angle as angle-contract
+use Rattle.elementary.proofs.wave.reduced_angle.Reads as angle-reads
 
 module _ (κs : Lfts 0) (a : ArgsD exp-contract.signature κs) (r : ResD exp-contract.signature κs) (e : AtExit (endedOf 0 exp-kinds.ps exp-kinds.r) κs) where
   pub exp-any : exp-reads.Asked κs a
@@ -39,3 +41,7 @@ module _ (κs : Lfts 0) (a : ArgsD cos-contract.signature κs) (r : ResD cos-con
 
   pub cos-unit : cos-reads.Learnt κs a r e → InUnit r
   cos-unit h = subst InUnit (sym h) (wave-claims .cosine (a .0))
+
+module _ (κs : Lfts 0) (a : ArgsD angle-contract.signature κs) where
+  pub angle-any : angle-reads.Asked κs a
+  angle-any = tt

@@ -5,4 +5,5 @@ mod wave;
 
 pub use exponential::exp;
 pub use wave::cos;
+pub use wave::reduced_angle;
 pub use wave::sin;

@@ -14,7 +14,7 @@ const TURN: f64 = 2.0 * PI;
 pub fn sin(t: f64) -> f64
     ensures { λ r. ⌜ r ≡ S t ⌝ }
 {
-    let r = reduced(t);
+    let r = reduced_angle(t);
     clamp(r * series_of(r * r, 1), -1.0, 1.0)
 }
 
@@ -25,7 +25,8 @@ pub fn cos(t: f64) -> f64
     clamp(series_of(t * t, 0), -1.0, 1.0)
 }
 
-fn reduced(t: f64) -> f64
+// The angle less its whole turns: r of S.
+pub fn reduced_angle(t: f64) -> f64
     ensures { λ r. ⌜ r ≡ reducedAngle t ⌝ }
 {
     let n = whole_part(t / TURN);

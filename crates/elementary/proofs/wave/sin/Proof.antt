@@ -6,8 +6,8 @@ use Rattle.elementary.proofs.Reduced.{sine-divisor}
 use Rattle.elementary.proofs.wave.sin.Statement.{statement}
 use Rattle.elementary.proofs.wave.sin.Tie as tie
 
-reduced-requires : tie.Need-reduced-requires
-reduced-requires c κs = tt
+reduced-angle-requires : tie.Need-reduced-angle-requires
+reduced-angle-requires c κs = tt
 
 series-of-requires : tie.Need-series-of-requires
 series-of-requires c κs = search needs
@@ -17,7 +17,7 @@ clamp-requires c κs = tt
 
 returns : tie.Need-returns
 unfolding S
-returns c = c .clamp .ensures ∙ rw (c .before .series-of .ensures, sine-divisor, c .before .before .reduced .ensures)
+returns c = c .clamp .ensures ∙ rw (c .before .series-of .ensures, sine-divisor, c .before .before .reduced-angle .ensures)
 
 pub sin-spec : {M : Type 1} → statement M
-sin-spec = tie.close (tie.spec reduced-requires series-of-requires clamp-requires returns)
+sin-spec = tie.close (tie.spec reduced-angle-requires series-of-requires clamp-requires returns)

@@ -1,0 +1,4 @@
+pub mod Composed
+pub mod Claims
+pub mod Tied
+mod Controls

@@ -1,0 +1,69 @@
+-- `multiply` meets its contract. Assumes nothing.
+use mathlib.Core.Path.{_≡_, refl}
+use Prim.Native.Nat.{_≤_, _-_}
+use native.Mathlib.Omega.{arith}
+use borrow.Author.Needs.{needs}
+use Rattle.lists.proofs.Fills.{upto, upto-none, upto-more}
+use Rattle.float64.specs.Arithmetic.{of, _⊗_}
+use Rattle.lanes.proofs.Lanes.{lanes-left}
+use Rattle.fault_currents.proofs.currents.multiply.Statement.{statement}
+use Rattle.fault_currents.proofs.currents.multiply.Tie as tie
+
+abbrev Inv-loop : tie.InvT-loop
+Inv-loop i₀ gain p q j₀ i j = (j ≤ 16) × (i ≡ upto j (λ n. gain ⊗ of p n ⊗ of q n) i₀)
+
+abbrev μ-loop : tie.MeasureT-loop
+μ-loop i₀ gain p q j₀ i j = 16 - j
+
+loop-holds : tie.Need-loop-holds Inv-loop μ-loop
+loop-holds c = (omega arith, upto-none _ _)
+
+mul-i : tie.Need-mul-i Inv-loop μ-loop
+mul-i c = search needs
+
+element-copy-out-i : tie.Need-element-copy-out-i Inv-loop μ-loop
+element-copy-out-i c = search needs
+
+mul-i-2 : tie.Need-mul-i-2 Inv-loop μ-loop
+mul-i-2 c = search needs
+
+element-copy-out-i-2 : tie.Need-element-copy-out-i-2 Inv-loop μ-loop
+element-copy-out-i-2 c = search needs
+
+mul-i-3 : tie.Need-mul-i-3 Inv-loop μ-loop
+mul-i-3 c = search needs
+
+element-write-i : tie.Need-element-write-i Inv-loop μ-loop
+element-write-i c = search needs
+
+add-j : tie.Need-add-j Inv-loop μ-loop
+add-j c = search needs
+
+loop-less : tie.Need-loop-less Inv-loop μ-loop
+loop-less c = search needs
+
+loop-again : tie.Need-loop-again Inv-loop μ-loop
+loop-again c = (omega arith, upto-more _ _ _ (c .before .before .before .loop .inv .1) refl)
+
+returns : tie.Need-returns Inv-loop μ-loop
+returns c =
+    let a = c .before .before .args in
+    lanes-left 16 (λ n. a .gain ⊗ of (a .p .now) n ⊗ of (a .q .now) n) (a .i .now) (c .before .loop .inv .0) (c .loop-test .left) (c .before .loop .inv .1)
+
+pub multiply-spec : {M : Type 1} → statement M
+multiply-spec =
+    tie.close
+    (tie.spec
+    Inv-loop
+    μ-loop
+    loop-holds
+    mul-i
+    element-copy-out-i
+    mul-i-2
+    element-copy-out-i-2
+    mul-i-3
+    element-write-i
+    add-j
+    loop-less
+    loop-again
+    returns)
