@@ -1,0 +1,27 @@
+-- `add_block` meets its contract. Assumes nothing.
+use Rattle.fault_sums.proofs.Blocks.{typed-lanes}
+use Rattle.fault_plan.specs.Fault.{dissipated}
+use mathlib.Core.Path.{_∙_}
+use borrow.Author.Needs.{needs}
+use Rattle.fault_sums.proofs.steps.add_block.Statement.{statement}
+use Rattle.fault_sums.proofs.steps.add_block.Tie as tie
+
+typed-currents-requires : tie.Need-typed-currents-requires
+typed-currents-requires c κs = search needs
+
+heats-requires : tie.Need-heats-requires
+heats-requires c κs = search needs
+
+add-lanes-requires : tie.Need-add-lanes-requires
+add-lanes-requires c κs = search needs
+
+returns : tie.Need-returns
+returns c =
+    let h = c .before .before .before in
+    let t = h .before in
+    let s = t .before in
+    let a = s .args in
+    c .add-lanes .ensures ∙ typed-lanes (dissipated (a .«dt-ms») (a .«r-ohm»)) (a .factor) (a .i .now) (a .n) (a .start) (s .pre) (t .typed-currents .ensures) (h .heats .ensures)
+
+pub add-block-spec : {M : Type 1} → statement M
+add-block-spec = tie.close (tie.spec typed-currents-requires heats-requires add-lanes-requires returns)

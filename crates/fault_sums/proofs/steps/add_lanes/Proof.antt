@@ -1,0 +1,55 @@
+-- `add_lanes` meets its contract: what is left to fold gives what all gives. Assumes nothing.
+use Rattle.fault_sums.specs.Blocks.{lanesFrom}
+use Rattle.fault_sums.proofs.Blocks.{lanes-more, lanes-done}
+use Rattle.float64.specs.Arithmetic.{of}
+use native.Mathlib.Omega.{arith}
+use Prim.Native.Nat.{_-_, _≤_}
+use mathlib.Core.Path.{_≡_, refl, sym, _∙_}
+use borrow.Author.Needs.{needs}
+use Rattle.fault_sums.proofs.steps.add_lanes.Statement.{statement}
+use Rattle.fault_sums.proofs.steps.add_lanes.Tie as tie
+
+abbrev Inv-loop : tie.InvT-loop
+Inv-loop i heat n s₀ lane₀ s lane = lanesFrom (of i) (of heat) lane s (n - lane) ≡ lanesFrom (of i) (of heat) 0 s₀ n
+
+abbrev μ-loop : tie.MeasureT-loop
+μ-loop i heat n s₀ lane₀ s lane = n - lane
+
+loop-holds : tie.Need-loop-holds Inv-loop μ-loop
+loop-holds c = let e : c .args .n - 0 ≡ c .args .n = omega arith in rw e
+
+mul-add-step : tie.Need-mul-add-step Inv-loop μ-loop
+mul-add-step c = search needs
+
+element-copy-out-add-step : tie.Need-element-copy-out-add-step Inv-loop μ-loop
+element-copy-out-add-step c = search needs
+
+mul-add-step-2 : tie.Need-mul-add-step-2 Inv-loop μ-loop
+mul-add-step-2 c = search needs
+
+element-copy-out-add-step-2 : tie.Need-element-copy-out-add-step-2 Inv-loop μ-loop
+element-copy-out-add-step-2 c = search needs
+
+add-step-requires : tie.Need-add-step-requires Inv-loop μ-loop
+add-step-requires c κs = search needs
+
+add-lane : tie.Need-add-lane Inv-loop μ-loop
+add-lane c = search needs
+
+loop-less : tie.Need-loop-less Inv-loop μ-loop
+loop-less c = search needs
+
+loop-again : tie.Need-loop-again Inv-loop μ-loop
+loop-again c =
+    let l = c .before .before .before .before in
+    let a = l .before .args in
+    rw (c .add-step .ensures) (lanes-more (of (a .i .now)) (of (a .heat .now)) (l .loop .lane) (a .n) (l .loop .s) (c .before .before .before .loop-test .taken)) ∙ l .loop .inv
+
+returns : tie.Need-returns Inv-loop μ-loop
+returns c =
+    let l = c .before in
+    let a = l .before .args in
+    sym (lanes-done (of (a .i .now)) (of (a .heat .now)) (l .loop .lane) (a .n) (l .loop .s) (c .loop-test .left)) ∙ l .loop .inv
+
+pub add-lanes-spec : {M : Type 1} → statement M
+add-lanes-spec = tie.close (tie.spec Inv-loop μ-loop loop-holds mul-add-step element-copy-out-add-step mul-add-step-2 element-copy-out-add-step-2 add-step-requires add-lane loop-less loop-again returns)

@@ -1,0 +1,55 @@
+-- `heats` meets its contract: lane by lane. Assumes nothing.
+use Rattle.lanes.proofs.Lanes.{lanes-left, lanes-of-blank}
+use Rattle.lists.proofs.Fills.{upto, upto-none, upto-more}
+use Rattle.lists.specs.Tables.{blank}
+use Rattle.float64.specs.Constants.{nought}
+use Rattle.float64.specs.Arithmetic.{_⊗_, of}
+use Rattle.fault_plan.specs.Fault.{dissipated}
+use native.Mathlib.Omega.{arith}
+use lib.Ieee.{Float}
+use Prim.Native.Nat.{ℕ, _-_, _≤_}
+use mathlib.Core.Path.{_≡_, refl, _∙_}
+use borrow.Author.Needs.{needs}
+use Rattle.fault_sums.proofs.steps.heats.Statement.{statement}
+use Rattle.fault_sums.proofs.steps.heats.Tie as tie
+
+abbrev Inv-loop : tie.InvT-loop
+Inv-loop i factor r-ohm dt-ms dt-s heat₀ j₀ heat j = (j ≤ 16) × (heat ≡ upto j (λ k. dissipated dt-ms r-ohm (of i k ⊗ factor)) (blank 16 nought))
+
+abbrev μ-loop : tie.MeasureT-loop
+μ-loop i factor r-ohm dt-ms dt-s heat₀ j₀ heat j = 16 - j
+
+loop-holds : tie.Need-loop-holds Inv-loop μ-loop
+unfolding blank
+loop-holds c = (omega arith, upto-none _ _)
+
+mul-i-a : tie.Need-mul-i-a Inv-loop μ-loop
+mul-i-a c = search needs
+
+element-copy-out-i-a : tie.Need-element-copy-out-i-a Inv-loop μ-loop
+element-copy-out-i-a c = search needs
+
+mul-heat : tie.Need-mul-heat Inv-loop μ-loop
+mul-heat c = search needs
+
+array-write-heat : tie.Need-array-write-heat Inv-loop μ-loop
+array-write-heat c = search needs
+
+add-j : tie.Need-add-j Inv-loop μ-loop
+add-j c = search needs
+
+loop-less : tie.Need-loop-less Inv-loop μ-loop
+loop-less c = search needs
+
+loop-again : tie.Need-loop-again Inv-loop μ-loop
+loop-again c = (omega arith, upto-more _ _ _ (c .before .before .loop .inv .1) refl)
+
+returns : tie.Need-returns Inv-loop μ-loop
+returns c =
+    let l = c .before in
+    let a = l .before .args in
+    let f : ℕ → Float = λ k. dissipated (a .«dt-ms») (a .«r-ohm») (of (a .i .now) k ⊗ a .factor) in
+    lanes-of-blank 16 f nought (lanes-left 16 f (blank 16 nought) (l .loop .inv .0) (c .loop-test .left) (l .loop .inv .1))
+
+pub heats-spec : {M : Type 1} → statement M
+heats-spec = tie.close (tie.spec Inv-loop μ-loop loop-holds mul-i-a element-copy-out-i-a mul-heat array-write-heat add-j loop-less loop-again returns)

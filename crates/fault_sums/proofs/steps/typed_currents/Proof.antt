@@ -1,0 +1,54 @@
+-- `typed_currents` meets its contract: lane by lane. Assumes nothing.
+use Rattle.lanes.proofs.Lanes.{lanes-left, lanes-of-blank}
+use Rattle.lists.proofs.Fills.{upto, upto-none, upto-more}
+use Rattle.lists.specs.Tables.{blank}
+use Rattle.float64.specs.Constants.{nought}
+use Rattle.float64.specs.Arithmetic.{_⊗_, of}
+use native.Mathlib.Omega.{arith}
+use lib.Ieee.{Float}
+use Prim.Native.Nat.{ℕ, _-_, _≤_}
+use mathlib.Core.Path.{_≡_, refl, _∙_}
+use borrow.Author.Needs.{needs}
+use Rattle.fault_sums.proofs.steps.typed_currents.Statement.{statement}
+use Rattle.fault_sums.proofs.steps.typed_currents.Tie as tie
+
+abbrev Inv-loop : tie.InvT-loop
+Inv-loop i factor typed₀ j₀ typed j = (j ≤ 16) × (typed ≡ upto j (λ k. of i k ⊗ factor) (blank 16 nought))
+
+abbrev μ-loop : tie.MeasureT-loop
+μ-loop i factor typed₀ j₀ typed j = 16 - j
+
+loop-holds : tie.Need-loop-holds Inv-loop μ-loop
+unfolding blank
+loop-holds c = (omega arith, upto-none _ _)
+
+mul-typed : tie.Need-mul-typed Inv-loop μ-loop
+mul-typed c = search needs
+
+element-copy-out-typed : tie.Need-element-copy-out-typed Inv-loop μ-loop
+element-copy-out-typed c = search needs
+
+mul-typed-2 : tie.Need-mul-typed-2 Inv-loop μ-loop
+mul-typed-2 c = search needs
+
+array-write-typed : tie.Need-array-write-typed Inv-loop μ-loop
+array-write-typed c = search needs
+
+add-j : tie.Need-add-j Inv-loop μ-loop
+add-j c = search needs
+
+loop-less : tie.Need-loop-less Inv-loop μ-loop
+loop-less c = search needs
+
+loop-again : tie.Need-loop-again Inv-loop μ-loop
+loop-again c = (omega arith, upto-more _ _ _ (c .before .before .loop .inv .1) refl)
+
+returns : tie.Need-returns Inv-loop μ-loop
+returns c =
+    let l = c .before in
+    let a = l .before .args in
+    let f : ℕ → Float = λ k. of (a .i .now) k ⊗ a .factor in
+    lanes-of-blank 16 f nought (lanes-left 16 f (blank 16 nought) (l .loop .inv .0) (c .loop-test .left) (l .loop .inv .1))
+
+pub typed-currents-spec : {M : Type 1} → statement M
+typed-currents-spec = tie.close (tie.spec Inv-loop μ-loop loop-holds mul-typed element-copy-out-typed mul-typed-2 array-write-typed add-j loop-less loop-again returns)
