@@ -75,13 +75,14 @@ fn shows_before_clearing(plan: FaultPlan, first: u64, end: u64, start: OpenCase)
         let now = StageState { y: before };
         let moved = numbers_after(&from, &to, &r, &l, &c, setting, now);
         y = moved.y;
+        // The breakers clear the fault in this step.
+        let clears = active & (k.breaker_clear_ms <= t_ms - inception_ms);
         let shown = shows_fault(&rated, &y, &before, n, m, t_ms, time_ms);
         // Step 0 does not count.
         if (1 <= step) & shown {
             return true;
         }
-        // The breakers clear the fault in this step.
-        if active & (k.breaker_clear_ms <= t_ms - inception_ms) {
+        if clears {
             return false;
         }
         time_ms = t_ms;

@@ -30,10 +30,17 @@ Inv-loop first end k inception-ms n m from to r l c rated stage y₀ time-ms₀ 
 abbrev μ-loop : tie.MeasureT-loop
 μ-loop first end k inception-ms n m from to r l c rated stage y₀ time-ms₀ active₀ step₀ y time-ms active step = end - step
 
--- the places of a turn: where it begins, and before the loop
-abbrev turn : tie.After-shows-fault Inv-loop μ-loop → tie.In-loop Inv-loop μ-loop
-turn c = c .before .before .before .before .before .before .before .before .before .before .before .before .before
+-- the places of a turn: after its numbers, after its time, and where it begins
+abbrev moving : tie.After-shows-fault Inv-loop μ-loop → tie.After-numbers-after Inv-loop μ-loop
+moving c = c .before .before .before .before .before .before
 
+abbrev clock : tie.After-shows-fault Inv-loop μ-loop → tie.After-step-time-ms Inv-loop μ-loop
+clock c = moving c .before .before .before .before .before .before .before
+
+abbrev turn : tie.After-shows-fault Inv-loop μ-loop → tie.In-loop Inv-loop μ-loop
+turn c = clock c .before
+
+-- and before the loop
 abbrev start : tie.At-loop Inv-loop μ-loop → tie.Start Inv-loop μ-loop
 start l = l .before .before .before .before .before .before .before .before .before .before .before .before .before .before
 
@@ -66,8 +73,8 @@ shows-fault-requires c κs = search needs
 returns : tie.Need-returns Inv-loop μ-loop
 returns c =
     let s = c .before in
-    let m = s .before .before .before .before .before in
-    let w = s .before .before .before .before .before .before .before .before .before .before .before .before in
+    let m = moving s in
+    let w = clock s in
     let t = turn s in
     let l = t .before in
     let a = start l .args in
@@ -90,9 +97,9 @@ returns c =
 
 returns-2 : tie.Need-returns-2 Inv-loop μ-loop
 returns-2 c =
-    let s = c .before .before .before in
-    let m = s .before .before .before .before .before in
-    let w = s .before .before .before .before .before .before .before .before .before .before .before .before in
+    let s = c .before .before in
+    let m = moving s in
+    let w = clock s in
     let t = turn s in
     let l = t .before in
     let a = start l .args in
@@ -110,21 +117,21 @@ returns-2 c =
     (w .step-time-ms .ensures)
     (m .numbers-after .ensures)
     (s .shows-fault .ensures)
-    (c .before .before .if1 .left)
+    (c .before .if1 .left)
     (c .if2 .taken) in
     sym (opened l ∙ sym (l .loop .inv) ∙ rw (one-left t) e)
 
 add-step : tie.Need-add-step Inv-loop μ-loop
-add-step c = let t = turn (c .before .before .before) in omega (arith, t .loop-test .taken, start (t .before) .fits .end)
+add-step c = let t = turn (c .before .before) in omega (arith, t .loop-test .taken, start (t .before) .fits .end)
 
 loop-less : tie.Need-loop-less Inv-loop μ-loop
 loop-less c = search needs
 
 loop-again : tie.Need-loop-again Inv-loop μ-loop
 loop-again c =
-    let s = c .before .before .before in
-    let m = s .before .before .before .before .before in
-    let w = s .before .before .before .before .before .before .before .before .before .before .before .before in
+    let s = c .before .before in
+    let m = moving s in
+    let w = clock s in
     let t = turn s in
     let l = t .before in
     let a = start l .args in
@@ -142,7 +149,7 @@ loop-again c =
     (w .step-time-ms .ensures)
     (m .numbers-after .ensures)
     (s .shows-fault .ensures)
-    (c .before .before .if1 .left)
+    (c .before .if1 .left)
     (c .if2 .left) in
     rw add-one (rw add-one at (sym e ∙ (rw (one-left t) at (l .loop .inv))))
 
