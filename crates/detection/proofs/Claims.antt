@@ -14,7 +14,7 @@ use Rattle.lists.proofs.Scanning.{or-second, some-found, some-same}
 use Rattle.grid.specs.declared.simulator.DcSwitchingSimulator.{DcSwitchingSimulator}
 use Rattle.rules.specs.Studies.{detectionRefusal}
 use Rattle.state_derivatives.specs.declared.state.DcTransientState.{DcTransientState}
-use Rattle.detection.specs.Detection.{timeBetween, fastCable, low, lowStation, detected, detectedBy, detection}
+use Rattle.detection.specs.Detection.{timeBetween, fastCable, low, lowStation, detected, shownBy, detectedBy, detection}
 use Rattle.detection.specs.Claims.{Alike, DetectionClaims}
 
 module _ (g : DcSwitchingSimulator) (s t before past : DcTransientState) (a : Alike g s t) (b : Alike g before past) where
@@ -37,7 +37,7 @@ module _ (g : DcSwitchingSimulator) (s t before past : DcTransientState) (a : Al
 -- the table has the rated voltages of the stations
 module _ (g : DcSwitchingSimulator) (s before : DcTransientState) (few : g .«n_stations» ≤ 32) (fewer : g .«n_cables» ≤ 64) where
   by-table : detectedBy (ratedOf g) (g .«n_stations») (g .«n_cables») s before ≡ detected g s before
-  unfolding detected detectedBy ratedOf
+  unfolding detected shownBy detectedBy ratedOf
   by-table =
       let n : min (g .«n_stations») 32 ≡ g .«n_stations» = omega arith in
       let m : min (g .«n_cables») 64 ≡ g .«n_cables» = omega arith in

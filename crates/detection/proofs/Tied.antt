@@ -10,6 +10,8 @@ use Rattle.detection.specs.Detection.{detected}
 use Rattle.detection.proofs.Claims.{detection-claims}
 use Rattle.detection.proofs.detect.detects as detects-contract
 use Rattle.detection.proofs.detect.detects.Reads as detects-reads
+use Rattle.detection.proofs.detect.shows_fault as shows-contract
+use Rattle.detection.proofs.detect.shows_fault.Reads as shows-reads
 use Rattle.detection.proofs.detect.detect_fault as detect-contract
 use Rattle.detection.proofs.detect.detect_fault.Kinds as kinds
 use Rattle.detection.proofs.detect.detect_fault.Reads as reads
@@ -24,3 +26,7 @@ module _ (κs : Lfts 0) (a : ArgsD detect-contract.signature κs) (r : ResD dete
 module _ (κs : Lfts 1) (a : ArgsD detects-contract.signature κs) where
   pub detects-any : detects-reads.Asked κs a
   detects-any = tt
+
+module _ (κs : Lfts 3) (a : ArgsD shows-contract.signature κs) where
+  pub shows-any : shows-reads.Asked κs a
+  shows-any = tt

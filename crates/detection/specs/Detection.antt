@@ -40,12 +40,16 @@ detected g s before =
     some (g .«n_cables») (fastCable (g .«n_stations») (timeBetween (s .«time_ms») (before .«time_ms»)) (s .y) (before .y))
     || some (g .«n_stations») (lowStation (g .stations) (s .y))
 
--- the same by the rated voltages in a table, whatever the counts
-unfoldable pub detectedBy : List Float → (stations cables : ℕ) → DcTransientState → DcTransientState → Bool
-detectedBy rated stations cables s before =
+-- the same of the voltages and cable currents of two states and their times, by the rated voltages in a table, whatever the counts
+unfoldable pub shownBy : List Float → (stations cables : ℕ) → (y earlier : List Float) → (t before : Float) → Bool
+shownBy rated stations cables y earlier t before =
     let n = stationCount stations in
-    some (cableCount cables) (fastCable n (timeBetween (s .«time_ms») (before .«time_ms»)) (s .y) (before .y))
-    || some n (λ i. low (of (s .y) i) (of rated i))
+    some (cableCount cables) (fastCable n (timeBetween t before) y earlier)
+    || some n (λ i. low (of y i) (of rated i))
+
+-- and of two states
+unfoldable pub detectedBy : List Float → (stations cables : ℕ) → DcTransientState → DcTransientState → Bool
+detectedBy rated stations cables s before = shownBy rated stations cables (s .y) (before .y) (s .«time_ms») (before .«time_ms»)
 
 -- no, where the grid is refused
 unfoldable pub detection : DcSwitchingSimulator → DcTransientState → DcTransientState → Bool

@@ -4,7 +4,7 @@ ghost use Prim.Native.Nat.{_≤_, _+_};
 ghost use Rattle.lists.specs.Scans.{some};
 ghost use Rattle.float64.specs.Arithmetic.{of};
 ghost use Rattle.rules.specs.Studies.{numberOf, detectionRefusal};
-ghost use Rattle.detection.specs.Detection.{timeBetween, fast, low, detectedBy, detection};
+ghost use Rattle.detection.specs.Detection.{timeBetween, fast, low, shownBy, detectedBy, detection};
 use float64::abs;
 use float64::max;
 use grid::DcSwitchingSimulator;
@@ -53,13 +53,36 @@ pub fn detects(
 ) -> bool
     ensures { λ r. ⌜ r ≡ detectedBy (now («rated_kv» .entry)) «n_stations» «n_cables» state prev ⌝ }
 {
-    let n = present(n_stations, 32);
-    let m = present(n_cables, 64);
     let y = state.y;
     let before = prev.y;
-    let dt_ms = time_between(state.time_ms, prev.time_ms);
-    let fast = some_current_fast(&y, &before, dt_ms, n, m);
-    let low = some_voltage_low(rated_kv, &y, n);
+    shows_fault(
+        rated_kv,
+        &y,
+        &before,
+        n_stations,
+        n_cables,
+        state.time_ms,
+        prev.time_ms,
+    )
+}
+
+// The same of the voltages and cable currents and the times of the two states alone.
+pub fn shows_fault(
+    rated_kv: &[f64; 96],
+    y: &[f64; 96],
+    before: &[f64; 96],
+    n_stations: usize,
+    n_cables: usize,
+    time_ms: f64,
+    before_ms: f64,
+) -> bool
+    ensures { λ r. ⌜ r ≡ shownBy (now («rated_kv» .entry)) «n_stations» «n_cables» (now (y .entry)) (now (before .entry)) «time_ms» «before_ms» ⌝ }
+{
+    let n = present(n_stations, 32);
+    let m = present(n_cables, 64);
+    let dt_ms = time_between(time_ms, before_ms);
+    let fast = some_current_fast(y, before, dt_ms, n, m);
+    let low = some_voltage_low(rated_kv, y, n);
     fast | low
 }
 

@@ -4,3 +4,4 @@ mod detect;
 pub use detect::DetectionAnswer;
 pub use detect::detect_fault;
 pub use detect::detects;
+pub use detect::shows_fault;

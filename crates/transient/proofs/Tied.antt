@@ -5,6 +5,8 @@ use borrow.Fn.World.{ArgsD, ResD}
 use borrow.Fn.Kinds.{endedOf}
 use denote.Triple.Clauses.{AtExit}
 use Rattle.transient.specs.Rk4.{rk4Step}
+use Rattle.transient.proofs.rk4.moved_numbers as moved-contract
+use Rattle.transient.proofs.rk4.moved_numbers.Reads as moved-reads
 use Rattle.transient.proofs.rk4.rk4_step as step-contract
 use Rattle.transient.proofs.rk4.rk4_step.Kinds as step-kinds
 use Rattle.transient.proofs.rk4.rk4_step.Reads as step-reads
@@ -15,3 +17,7 @@ module _ (κs : Lfts 0) (a : ArgsD step-contract.signature κs) (r : ResD step-c
 
   pub step-is : step-reads.Learnt κs a r e → r ≡ rk4Step (a .0) (a .1 .0) (a .1 .1 .0) (a .1 .1 .1 .0)
   step-is h = h
+
+module _ (κs : Lfts 5) (a : ArgsD moved-contract.signature κs) where
+  pub moved-any : moved-reads.Asked κs a
+  moved-any = tt

@@ -8,7 +8,7 @@ ghost use Rattle.float64.specs.Arithmetic.{of};
 ghost use Rattle.float64.specs.Choice.{maxOf};
 ghost use Rattle.network.specs.Network.{stationCount, cableCount, end};
 ghost use Rattle.state_derivatives.specs.Derivatives.{derivatives};
-ghost use Rattle.transient.specs.Rk4.{ahead, blended, weighted, rk4Step};
+ghost use Rattle.transient.specs.Rk4.{ahead, blended, weighted, newState, rk4Step};
 use float64::max;
 use grid::present;
 use network::Drain;
@@ -55,6 +55,31 @@ pub fn rk4_step(
         m: n_cables,
         drain,
     };
+    let y0 = state.y;
+    let start = StageState { y: y0 };
+    let raised = moved_numbers(&from, &to, &r, &l, &c, setting, start, dt_s);
+    let y = raised.y;
+    let currents = net_currents(&from, &to, raised, n_stations, n_cables);
+    DcTransientState {
+        y,
+        station_currents_ka: currents,
+        ..state
+    }
+}
+
+// The voltages and cable currents after such a step, without the rest of the state. A count past the tables takes all of them.
+pub fn moved_numbers(
+    from: &[usize; 64],
+    to: &[usize; 64],
+    r: &[f64; 64],
+    l: &[f64; 64],
+    c: &[f64; 32],
+    setting: StageSetting,
+    start: StageState,
+    dt_s: f64,
+) -> StageState
+    ensures { λ s. ⌜ s .y ≡ newState (stationCount (setting .n)) (cableCount (setting .m)) (derivatives (end (now (from .entry))) (end (now (to .entry))) (of (now (r .entry))) (of (now (l .entry))) (of (now (c .entry))) (setting .drain) (stationCount (setting .n)) (cableCount (setting .m))) «dt_s» (start .y) ⌝ }
+{
     let half_on = Stage {
         setting,
         ahead_s: 0.5 * dt_s,
@@ -63,23 +88,14 @@ pub fn rk4_step(
         setting,
         ahead_s: dt_s,
     };
-    let y0 = state.y;
-    let start = StageState { y: y0 };
-    let k1 = state_derivatives(&from, &to, &r, &l, &c, setting, start);
-    let k2 = slopes_ahead(&from, &to, &r, &l, &c, half_on, start, k1);
-    let k3 = slopes_ahead(&from, &to, &r, &l, &c, half_on, start, k2);
-    let k4 = slopes_ahead(&from, &to, &r, &l, &c, whole_on, start, k3);
-    let n = present(n_stations, 32);
-    let m = present(n_cables, 64);
+    let k1 = state_derivatives(from, to, r, l, c, setting, start);
+    let k2 = slopes_ahead(from, to, r, l, c, half_on, start, k1);
+    let k3 = slopes_ahead(from, to, r, l, c, half_on, start, k2);
+    let k4 = slopes_ahead(from, to, r, l, c, whole_on, start, k3);
+    let n = present(setting.n, 32);
+    let m = present(setting.m, 64);
     let moved = blend(start, dt_s / 6.0, k1, k2, k3, k4, n + m);
-    let raised = raise_voltages(moved, n);
-    let y = raised.y;
-    let currents = net_currents(&from, &to, raised, n_stations, n_cables);
-    DcTransientState {
-        y,
-        station_currents_ka: currents,
-        ..state
-    }
+    raise_voltages(moved, n)
 }
 
 // The slopes at the state that the slopes k lead to.

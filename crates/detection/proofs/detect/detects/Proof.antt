@@ -1,40 +1,15 @@
 -- `detects` meets its contract. Assumes nothing.
 use Rattle.detection.specs.Detection.{detectedBy}
-use native.Mathlib.Omega.{arith}
 use borrow.Author.Needs.{needs}
 use Rattle.detection.proofs.detect.detects.Statement.{statement}
 use Rattle.detection.proofs.detect.detects.Tie as tie
 
-present-requires : tie.Need-present-requires
-present-requires c κs = search needs
-
-present-requires-2 : tie.Need-present-requires-2
-present-requires-2 c κs = search needs
-
-time-between-requires : tie.Need-time-between-requires
-time-between-requires c κs = search needs
-
-some-current-fast-requires : tie.Need-some-current-fast-requires
-some-current-fast-requires c κs = search needs
-
-some-voltage-low-requires : tie.Need-some-voltage-low-requires
-some-voltage-low-requires c κs = search needs
+shows-fault-requires : tie.Need-shows-fault-requires
+shows-fault-requires c κs = search needs
 
 returns : tie.Need-returns
 unfolding detectedBy
-returns c =
-    let f = c .before .before in
-    let t = f .before .before .before in
-    let m = t .before .before .before in
-    rw (c .some-voltage-low .ensures, f .some-current-fast .ensures, t .time-between .ensures, m .present2 .ensures, m .before .present .ensures)
+returns c = c .shows-fault .ensures
 
 pub detects-spec : {M : Type 1} → statement M
-detects-spec =
-    tie.close
-    (tie.spec
-    present-requires
-    present-requires-2
-    time-between-requires
-    some-current-fast-requires
-    some-voltage-low-requires
-    returns)
+detects-spec = tie.close (tie.spec shows-fault-requires returns)
