@@ -11,7 +11,7 @@ use Rattle.lists.proofs.Counting.{by-test, lt-or-le}
 use Rattle.fault_plan.specs.declared.plan.FaultPlan.{FaultPlan}
 use Rattle.fault_window.specs.declared.steps.Window.{Window}
 use Rattle.fault_window.specs.Window.{until, windowOf}
-use Rattle.fault_sums.specs.declared.sums.Sums.{Sums}
+use Rattle.fault_sums.specs.declared.steps.Sums.{Sums}
 use Rattle.fault_sums.specs.Sums.{sumStep, sumsFrom}
 use Rattle.case_reasons.specs.declared.reasons.CaseOutcome.{CaseOutcome}
 use Rattle.case_steps.specs.declared.open_case.OpenCase.{OpenCase}

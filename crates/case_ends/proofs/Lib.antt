@@ -1,3 +1,4 @@
 pub mod Found
 pub mod Phases
+pub mod Ways
 pub mod Claims

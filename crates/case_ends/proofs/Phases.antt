@@ -15,7 +15,7 @@ use Rattle.fault_plan.specs.Fault.{Setting, activeAt, clearsAt, dissipated, bod
 use Rattle.fault_plan.specs.Plans.{planSetting, planStep}
 use Rattle.run_start.specs.Start.{timeAt}
 use Rattle.fault_window.specs.Window.{activeIn, clearsIn}
-use Rattle.fault_sums.specs.declared.sums.Sums.{Sums}
+use Rattle.fault_sums.specs.declared.steps.Sums.{Sums}
 use Rattle.fault_sums.specs.Sums.{sumStep, sumsFrom, sumsOf}
 use Rattle.case_steps.specs.declared.open_case.OpenCase.{OpenCase}
 use Rattle.case_steps.specs.OpenCases.{outcomeIn, countsAt, clearingAfter, stepped}
