@@ -1,4 +1,5 @@
-// The current in amperes at sixteen times, by each response of the circuit.
+// The current in amperes at sixteen times t, in seconds after inception, by each response of the circuit. Each function has one loop over the
+// lanes or none, so that its operations are made several at once.
 ghost use mathlib.Core.Path.{_≡_};
 ghost use lib.Ieee.{nan, neg};
 ghost use Rattle.lists.specs.Tables.{tab, over};
@@ -9,6 +10,7 @@ ghost use Rattle.elementary.specs.Wave.{S};
 use lanes::exp_lanes;
 use lanes::sin_lanes;
 
+// gain * E(-alpha t) * S(omega_d t)
 pub fn underdamped_amperes(i: &mut [f64; 16], t: &[f64; 16], gain: f64, alpha: f64, omega_d: f64)
     ensures { λ _. ⌜ now (i .exit) ≡ over 16 (λ j. gain ⊗ E (neg alpha ⊗ of (now (t .entry)) j) ⊗ S («omega_d» ⊗ of (now (t .entry)) j)) nan (now (i .entry)) ⌝ }
 {
@@ -19,6 +21,7 @@ pub fn underdamped_amperes(i: &mut [f64; 16], t: &[f64; 16], gain: f64, alpha: f
     multiply(i, gain, &damping, &wave);
 }
 
+// gain * (E(s1 t) - E(s2 t))
 pub fn overdamped_amperes(i: &mut [f64; 16], t: &[f64; 16], gain: f64, s1: f64, s2: f64)
     ensures { λ _. ⌜ now (i .exit) ≡ over 16 (λ j. gain ⊗ (E (s1 ⊗ of (now (t .entry)) j) ⊖ E (s2 ⊗ of (now (t .entry)) j))) nan (now (i .entry)) ⌝ }
 {
@@ -29,6 +32,7 @@ pub fn overdamped_amperes(i: &mut [f64; 16], t: &[f64; 16], gain: f64, s1: f64, 
     subtract(i, gain, &first, &second);
 }
 
+// gain * t * E(-alpha t)
 pub fn critical_amperes(i: &mut [f64; 16], t: &[f64; 16], gain: f64, alpha: f64)
     ensures { λ _. ⌜ now (i .exit) ≡ over 16 (λ j. gain ⊗ of (now (t .entry)) j ⊗ E (neg alpha ⊗ of (now (t .entry)) j)) nan (now (i .entry)) ⌝ }
 {
@@ -37,6 +41,7 @@ pub fn critical_amperes(i: &mut [f64; 16], t: &[f64; 16], gain: f64, alpha: f64)
     multiply(i, gain, t, &damping);
 }
 
+// 0 at every time
 pub fn no_amperes(i: &mut [f64; 16])
     ensures { λ _. ⌜ now (i .exit) ≡ over 16 (λ j. nought) nan (now (i .entry)) ⌝ }
 {
@@ -47,7 +52,7 @@ pub fn no_amperes(i: &mut [f64; 16])
     }
 }
 
-// E(a * t)
+// E(a t)
 fn exp_along(p: &mut [f64; 16], a: f64, t: &[f64; 16])
     ensures { λ _. ⌜ now (p .exit) ≡ tab 16 (λ j. E (a ⊗ of (now (t .entry)) j)) ⌝ }
 {
@@ -56,7 +61,7 @@ fn exp_along(p: &mut [f64; 16], a: f64, t: &[f64; 16])
     exp_lanes(p, &x);
 }
 
-// S(a * t)
+// S(a t)
 fn sin_along(q: &mut [f64; 16], a: f64, t: &[f64; 16])
     ensures { λ _. ⌜ now (q .exit) ≡ tab 16 (λ j. S (a ⊗ of (now (t .entry)) j)) ⌝ }
 {
@@ -65,6 +70,7 @@ fn sin_along(q: &mut [f64; 16], a: f64, t: &[f64; 16])
     sin_lanes(q, &x);
 }
 
+// a t
 fn scale(x: &mut [f64; 16], a: f64, t: &[f64; 16])
     ensures { λ _. ⌜ now (x .exit) ≡ over 16 (λ j. a ⊗ of (now (t .entry)) j) nan (now (x .entry)) ⌝ }
 {
@@ -75,6 +81,7 @@ fn scale(x: &mut [f64; 16], a: f64, t: &[f64; 16])
     }
 }
 
+// gain * p * q, from the left
 fn multiply(i: &mut [f64; 16], gain: f64, p: &[f64; 16], q: &[f64; 16])
     ensures { λ _. ⌜ now (i .exit) ≡ over 16 (λ j. gain ⊗ of (now (p .entry)) j ⊗ of (now (q .entry)) j) nan (now (i .entry)) ⌝ }
 {
@@ -85,6 +92,7 @@ fn multiply(i: &mut [f64; 16], gain: f64, p: &[f64; 16], q: &[f64; 16])
     }
 }
 
+// gain * (p - q)
 fn subtract(i: &mut [f64; 16], gain: f64, p: &[f64; 16], q: &[f64; 16])
     ensures { λ _. ⌜ now (i .exit) ≡ over 16 (λ j. gain ⊗ (of (now (p .entry)) j ⊖ of (now (q .entry)) j)) nan (now (i .entry)) ⌝ }
 {

@@ -17,7 +17,7 @@ use fault_circuit::Response;
 use float64::abs;
 use float64::max;
 
-// Whatever out held. A time before the inception counts as the inception.
+// In kA, whatever out held. A time before the inception counts as the inception.
 pub fn site_currents_ka(out: &mut [f64; 16], circuit: FaultCircuit, t_ms: &[f64; 16])
     ensures { λ _. ⌜ now (out .exit) ≡ tab 16 (λ j. siteCurrent circuit (of (now («t_ms» .entry)) j)) ⌝ }
 {
@@ -29,7 +29,7 @@ pub fn site_currents_ka(out: &mut [f64; 16], circuit: FaultCircuit, t_ms: &[f64;
     to_kiloamperes(out, circuit.resistance_factor);
 }
 
-// 0 before that moment.
+// Seconds from a moment to each time, both in milliseconds; 0 before that moment.
 fn seconds_since(t: &mut [f64; 16], moment_ms: f64, t_ms: &[f64; 16])
     ensures { λ _. ⌜ now (t .exit) ≡ over 16 (λ j. secondsSince «moment_ms» (of (now («t_ms» .entry)) j)) nan (now (t .entry)) ⌝ }
 {
@@ -56,6 +56,7 @@ fn amperes(i: &mut [f64; 16], response: Response, t: &[f64; 16])
     }
 }
 
+// The size of the current, in kA, times the factor.
 fn to_kiloamperes(i: &mut [f64; 16], factor: f64)
     ensures { λ _. ⌜ now (i .exit) ≡ over 16 (λ j. absOf (of (now (i .entry)) j) ⊘ kilo ⊗ factor) nan (now (i .entry)) ⌝ }
 {

@@ -9,7 +9,7 @@ ghost use Rattle.float64.specs.Arithmetic.{_⊕_, _⊗_, _⊘_, of};
 ghost use Rattle.elementary.specs.Exponential.{terms, squared, E};
 use crate::squares::square_lanes;
 
-// Whatever out held.
+// f64::exp of each lane, whatever out held.
 pub fn exp_lanes(out: &mut [f64; 16], t: &[f64; 16])
     ensures { λ _. ⌜ now (out .exit) ≡ tab 16 (λ j. E (of (now (t .entry)) j)) ⌝ }
 {
@@ -18,9 +18,10 @@ pub fn exp_lanes(out: &mut [f64; 16], t: &[f64; 16])
     *out = [1.0; 16];
     add_terms(out, &y);
     square_ten_times(out);
-    choose(out, t);
+    zero_below_700(out, t);
 }
 
+// y of E's definition: the argument scaled down, which the ten squarings undo.
 fn divide_by_1024(y: &mut [f64; 16], t: &[f64; 16])
     ensures { λ _. ⌜ now (y .exit) ≡ over 16 (λ j. of (now (t .entry)) j ⊘ k1024) nan (now (y .entry)) ⌝ }
 {
@@ -31,7 +32,7 @@ fn divide_by_1024(y: &mut [f64; 16], t: &[f64; 16])
     }
 }
 
-// The eighteen terms of each lane.
+// The eighteen terms, k = 18 first. The divisor is made a double once for all lanes.
 fn add_terms(p: &mut [f64; 16], y: &[f64; 16])
     ensures { λ _. ⌜ now (p .exit) ≡ over 16 (λ j. terms 18 (of (now (y .entry)) j) (of (now (p .entry)) j)) nan (now (p .entry)) ⌝ }
 {
@@ -42,6 +43,7 @@ fn add_terms(p: &mut [f64; 16], y: &[f64; 16])
     }
 }
 
+// p becomes 1 + (y * p) / k.
 fn add_term(p: &mut [f64; 16], y: &[f64; 16], k: f64)
     ensures { λ _. ⌜ now (p .exit) ≡ over 16 (λ j. one ⊕ of (now (y .entry)) j ⊗ of (now (p .entry)) j ⊘ k) nan (now (p .entry)) ⌝ }
 {
@@ -52,6 +54,7 @@ fn add_term(p: &mut [f64; 16], y: &[f64; 16], k: f64)
     }
 }
 
+// p becomes p to the power of 1,024.
 fn square_ten_times(p: &mut [f64; 16])
     ensures { λ _. ⌜ now (p .exit) ≡ over 16 (λ j. squared 10 (of (now (p .entry)) j)) nan (now (p .entry)) ⌝ }
 {
@@ -62,18 +65,19 @@ fn square_ten_times(p: &mut [f64; 16])
     }
 }
 
-// The test comes last: a lane that is below -700 has been computed with the others.
-fn choose(p: &mut [f64; 16], t: &[f64; 16])
+// E is 0 below -700. The test comes last: such a lane has been worked out with the others, and is dropped.
+fn zero_below_700(p: &mut [f64; 16], t: &[f64; 16])
     ensures { λ _. ⌜ now (p .exit) ≡ over 16 (λ j. cond (lt (of (now (t .entry)) j) (neg k700)) nought (of (now (p .entry)) j)) nan (now (p .entry)) ⌝ }
 {
     let mut j: usize = 0;
     while j < 16 {
-        p[j] = none_below(t[j], p[j]);
+        p[j] = power_or_zero(t[j], p[j]);
         j += 1;
     }
 }
 
-fn none_below(t: f64, p: f64) -> f64
+// 0 where t is below -700; a NaN is not.
+fn power_or_zero(t: f64, p: f64) -> f64
     ensures { λ r. ⌜ r ≡ cond (lt t (neg k700)) nought p ⌝ }
 {
     if t < -700.0 { 0.0 } else { p }

@@ -1,4 +1,4 @@
-// Sixteen numbers squared.
+// Sixteen numbers squared, each by one rounded product.
 ghost use mathlib.Core.Path.{_≡_};
 ghost use lib.Ieee.{nan};
 ghost use Rattle.lists.specs.Tables.{over};

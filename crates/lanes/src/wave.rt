@@ -9,7 +9,7 @@ use crate::squares::square_lanes;
 use elementary::reduced_angle;
 use float64::clamp;
 
-// Whatever out held.
+// f64::sin of each lane, whatever out held.
 pub fn sin_lanes(out: &mut [f64; 16], t: &[f64; 16])
     ensures { λ _. ⌜ now (out .exit) ≡ tab 16 (λ j. S (of (now (t .entry)) j)) ⌝ }
 {
@@ -22,6 +22,7 @@ pub fn sin_lanes(out: &mut [f64; 16], t: &[f64; 16])
     clamp_products(out, &r);
 }
 
+// r of S's definition: the angle less its whole turns.
 fn reduce_angles(r: &mut [f64; 16], t: &[f64; 16])
     ensures { λ _. ⌜ now (r .exit) ≡ over 16 (λ j. reducedAngle (of (now (t .entry)) j)) nan (now (r .entry)) ⌝ }
 {
@@ -32,7 +33,7 @@ fn reduce_angles(r: &mut [f64; 16], t: &[f64; 16])
     }
 }
 
-// The thirteen terms of each lane.
+// The thirteen terms, k = 13 first. The divisor 2k(2k+1) is made a double once for all lanes.
 fn subtract_terms(q: &mut [f64; 16], x: &[f64; 16])
     ensures { λ _. ⌜ now (q .exit) ≡ over 16 (λ j. series sineDivisor 13 (of (now (x .entry)) j) (of (now (q .entry)) j)) nan (now (q .entry)) ⌝ }
 {
@@ -44,6 +45,7 @@ fn subtract_terms(q: &mut [f64; 16], x: &[f64; 16])
     }
 }
 
+// q becomes 1 - (x * q) / d.
 fn subtract_term(q: &mut [f64; 16], x: &[f64; 16], d: f64)
     ensures { λ _. ⌜ now (q .exit) ≡ over 16 (λ j. one ⊖ of (now (x .entry)) j ⊗ of (now (q .entry)) j ⊘ d) nan (now (q .entry)) ⌝ }
 {
@@ -54,6 +56,7 @@ fn subtract_term(q: &mut [f64; 16], x: &[f64; 16], d: f64)
     }
 }
 
+// r * q, cut to -1..1; a NaN stays.
 fn clamp_products(q: &mut [f64; 16], r: &[f64; 16])
     ensures { λ _. ⌜ now (q .exit) ≡ over 16 (λ j. toUnit (of (now (r .entry)) j ⊗ of (now (q .entry)) j)) nan (now (q .entry)) ⌝ }
 {

@@ -14,8 +14,8 @@ add-terms-requires c κs = search needs
 square-ten-times-requires : tie.Need-square-ten-times-requires
 square-ten-times-requires c κs = search needs
 
-choose-requires : tie.Need-choose-requires
-choose-requires c κs = search needs
+zero-below-700-requires : tie.Need-zero-below-700-requires
+zero-below-700-requires c κs = search needs
 
 returns : tie.Need-returns
 unfolding blank
@@ -23,7 +23,7 @@ returns c =
     let s = c .before .before in
     let p = s .before .before in
     let y = p .before .before .before .before in
-    exp-composed 16 (y .before .before .args .t .now) (y .divide-by-1024 .ensures) (p .add-terms .ensures) (s .square-ten-times .ensures) (c .choose .ensures)
+    exp-composed 16 (y .before .before .args .t .now) (y .divide-by-1024 .ensures) (p .add-terms .ensures) (s .square-ten-times .ensures) (c .zero-below-700 .ensures)
 
 pub exp-lanes-spec : {M : Type 1} → statement M
 exp-lanes-spec =
@@ -32,5 +32,5 @@ exp-lanes-spec =
     divide-by-1024-requires
     add-terms-requires
     square-ten-times-requires
-    choose-requires
+    zero-below-700-requires
     returns)
