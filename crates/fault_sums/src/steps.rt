@@ -17,7 +17,7 @@ use run_start::step_time_ms;
 
 // Of the steps folded so far.
 pub struct Sums {
-    // Their greatest current.
+    // Their greatest current. A NaN is passed over.
     pub peak_ka: f64,
     // The heat in the resistances of fault and cable.
     pub energy_mj: f64,
@@ -32,7 +32,7 @@ pub struct SiteSums {
     pub internal: Sums,
 }
 
-// The steps from the number `first` up to `end`, which is not folded, after those in `start`.
+// The steps from the number `first` up to `end`, which is not folded, after those in `start`. It stays as it is where `first` is not below `end`.
 pub fn fault_sums(circuit: FaultCircuit, dt_ms: f64, first: u64, end: u64, start: Sums) -> Sums
     ensures { λ r. ⌜ r ≡ sumsOf circuit «dt_ms» first start (end - first) ⌝ }
 {
@@ -85,7 +85,7 @@ fn block_length(step: u64, end: u64) -> usize
     16
 }
 
-// Before the factor of the fault's type. Lanes from n on have some current or other.
+// Before the factor of the fault's type. Lanes from n on have the current at time 0, and are not folded.
 fn block_currents(circuit: FaultCircuit, dt_ms: f64, first: u64, n: usize) -> [f64; 16]
     requires { ⌜ (n ≤ 16) × (first + n < 2 ^ 64) ⌝ }
     ensures { λ r. ⌜ r ≡ tab 16 (λ j. siteCurrent circuit (of (blockTimes «dt_ms» first n) j)) ⌝ }

@@ -15,7 +15,7 @@ pub struct Window {
 }
 
 // Of the steps from `first` up to `end`, which is not made. The fault is active from its inception on, or in all of them where it is active already.
-// Where it is active in none, the window begins and ends at `end`.
+// Where it is active in none, or `first` is not below `end`, no step lies in the window.
 pub fn fault_window(
     dt_ms: f64,
     inception_ms: f64,
