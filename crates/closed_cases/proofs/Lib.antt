@@ -1,1 +1,1 @@
-pub mod Closed
+pub mod AllSteps

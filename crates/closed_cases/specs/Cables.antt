@@ -1,4 +1,4 @@
--- The outcomes of the cases that a call closes: of one from what is kept of it, of all on a cable from its places. Definitions only: proofs/Closed says that they
+-- The outcomes of the cases that a call closes: of one from what is kept of it, of all on a cable from its places. Definitions only: proofs/AllSteps says that they
 -- are what the steps one by one lead to.
 use Prim.Native.Nat.{ℕ, zero, suc, _*_, _/_}
 use mathlib.Core.Bool.{Bool, true, false, not, _&&_, cond}

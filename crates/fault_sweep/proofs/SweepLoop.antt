@@ -39,7 +39,7 @@ use Rattle.case_reasons.specs.declared.reasons.CaseOutcome.{CaseOutcome}
 use Rattle.sweep_cases.specs.declared.cases.Common.{Common}
 use Rattle.closed_cases.specs.declared.cable.CableEnds.{CableEnds}
 use Rattle.closed_cases.specs.Cables.{noCable, heldFor, closedBy}
-use Rattle.closed_cases.proofs.Closed.{Holding, still-holding, closed-is}
+use Rattle.closed_cases.proofs.AllSteps.{Holding, still-holding, closed-is}
 use Rattle.fault_sweep.specs.declared.sweep.Sweep.{Sweep}
 use Rattle.fault_sweep.specs.declared.sweep.AdvancedSweep.{AdvancedSweep}
 use Rattle.fault_sweep.specs.KeptSweep.{keptAt}

@@ -1,0 +1,39 @@
+-- `site_at` meets its contract. Assumes nothing.
+use borrow.Author.Needs.{needs}
+use Rattle.closed_cases.proofs.cable.site_at.Statement.{statement}
+use Rattle.closed_cases.proofs.cable.site_at.Tie as tie
+
+
+is-tried-requires : tie.Need-is-tried-requires
+is-tried-requires c κs = search needs
+
+
+plan-at-requires : tie.Need-plan-at-requires
+plan-at-requires c κs = search needs
+
+
+site-ends-requires : tie.Need-site-ends-requires
+site-ends-requires c κs = search needs
+
+
+returns : tie.Need-returns
+returns c = ?
+
+
+blank-site-requires : tie.Need-blank-site-requires
+blank-site-requires c κs = search needs
+
+
+returns-2 : tie.Need-returns-2
+returns-2 c = ?
+
+pub site-at-spec : {M : Type 1} → statement M
+site-at-spec =
+    tie.close
+    (tie.spec
+    is-tried-requires
+    plan-at-requires
+    site-ends-requires
+    returns
+    blank-site-requires
+    returns-2)
