@@ -6,11 +6,12 @@ use mathlib.Core.Path.{_≡_, refl, sym, ap, _∙_}
 use mathlib.Core.Bool.{Bool, true, false, not, _&&_, cond}
 use lib.Dec.{eqb, leb}
 use lib.ListN.{getD}
-use borrow.Author.Tests.{eq-eqb, eqb-true, leb-true, le-leb}
-use Rattle.lists.specs.Tables.{tab}
+use borrow.Author.Tests.{eq-eqb, eqb-true, leb-true, le-leb, lt-ltb}
+use mathlib.Core.List.{List}
+use Rattle.lists.specs.Tables.{tab, blank, padded}
 use Rattle.lists.proofs.Counting.{by-test, contrary}
 use Rattle.lists.proofs.Scanning.{left, right}
-use Rattle.lists.proofs.Fills.{getD-tab}
+use Rattle.lists.proofs.Fills.{upto, upto-padded, tab-same, getD-tab}
 use Rattle.grid.specs.declared.parts.SweepOrder.{SweepOrder}
 use Rattle.grid.specs.declared.simulator.DcSwitchingSimulator.{DcSwitchingSimulator}
 use Rattle.timing.specs.Steps.{stepsOf, countedTo, timeStepMs}
@@ -40,6 +41,64 @@ use Rattle.sweep_cases.specs.declared.cases.Common.{Common}
 use Rattle.sweep_cases.specs.Plans.{commonOf, planAt, planFor}
 use Rattle.closed_cases.specs.declared.cable.CableEnds.{CableEnds}
 use Rattle.closed_cases.specs.Cables.{windowIn, endFor, blankSite, tried, siteAt, cableOf, inSite, wholeCable, heldFor, closedBy}
+
+-- ---- for the code
+
+-- a type that is neither the first nor the second is the third
+pub internal-else : (s : SiteEnds) (n : ℕ) → ((Unit {0} × (n ≡ 0 → ⊥)) × (n ≡ 1 → ⊥)) → s .internal ≡ inSite s n
+internal-else s zero h = absurd (h .0 .1 refl)
+internal-else s (suc zero) h = absurd (h .1 refl)
+internal-else s (suc (suc n)) h = refl
+
+-- a tenth that is tried is one up to the tenth
+pub few-tried : (a b : Bool) (o : SweepOrder) (tenth : ℕ) → b ≡ tried o tenth → (a && b) ≡ true → tenth ≤ 10
+few-tried a b o tenth e h = leb-true tenth 10 (right (leb (o .«low_tenth») tenth && leb tenth (o .«high_tenth»)) (leb tenth 10) (sym e ∙ right a b h))
+
+-- what a call takes of a case at a place
+module _ (x : Common) (ends : CableEnds) (fresh : Bool) (k made : ℕ) (c : OpenCase) where
+  abbrev lookedUp : CasePlace → CaseOutcome
+  lookedUp place = inSite (getD (ends .sites) (place .tenth) blankSite) (place .«fault_type»)
+
+  abbrev closedAt : CasePlace → CaseOutcome
+  closedAt place = cond (fresh && ends .held && eqb (ends .cable) (place .cable) && tried (x .order) (place .tenth)) (lookedUp place) (endFor x place made c)
+
+  is-at : closedBy x ends fresh k made c ≡ closedAt (placeOf (x .order) k)
+  unfolding closedBy
+  is-at = refl
+
+  module _ (place : CasePlace) (is-place : place ≡ placeOf (x .order) k) (t : Bool) (is-t : t ≡ tried (x .order) (place .tenth)) (r : CaseOutcome) where
+    by : (b : Bool) → (fresh && ends .held && eqb (ends .cable) (place .cable) && t) ≡ b → cond b (lookedUp place) (endFor x place made c) ≡ closedBy x ends fresh k made c
+    by b h =
+        ap (λ (z : Bool). cond z (lookedUp place) (endFor x place made c)) (sym h ∙ ap (λ (z : Bool). fresh && ends .held && eqb (ends .cable) (place .cable) && z) is-t)
+        ∙ ap closedAt is-place
+        ∙ sym is-at
+
+    pub takes-held : (fresh && ends .held && eqb (ends .cable) (place .cable) && t) ≡ true → r ≡ lookedUp place → r ≡ closedBy x ends fresh k made c
+    takes-held h e = e ∙ by true h
+
+    pub takes-own : (fresh && ends .held && eqb (ends .cable) (place .cable) && t) ≡ false → r ≡ endFor x place made c → r ≡ closedBy x ends fresh k made c
+    takes-own h e = e ∙ by false h
+
+-- what it holds
+module _ (x : Common) (before : CableEnds) (k allowed room : ℕ) (place : CasePlace) (is-place : place ≡ placeOf (x .order) k) (t : Bool) (is-t : t ≡ wholeCable (x .order) place (x .«n_steps») allowed room) where
+  abbrev heldAt : CasePlace → CableEnds
+  heldAt q = cond (wholeCable (x .order) q (x .«n_steps») allowed room) (cableOf x (q .cable)) before
+
+  held-by : (b : Bool) → t ≡ b → cond b (cableOf x (place .cable)) before ≡ heldFor x before k allowed room
+  held-by b h = ap (λ (z : Bool). cond z (cableOf x (place .cable)) before) (sym h ∙ is-t) ∙ ap heldAt is-place
+
+  pub holds : t ≡ true → (r : CableEnds) → r ≡ cableOf x (place .cable) → r ≡ heldFor x before k allowed room
+  holds h r e = e ∙ held-by true h
+
+  pub holds-on : t ≡ false → before ≡ heldFor x before k allowed room
+  holds-on h = held-by false h
+
+abbrev pub cable-with : (cable : ℕ) → List SiteEnds → CableEnds
+cable-with cable sites = record { held = true; cable = cable; sites = sites }
+
+pub all-sites : (f : ℕ → SiteEnds) → upto 11 f (blank 11 blankSite) ≡ tab 11 f
+unfolding padded
+all-sites f = upto-padded 11 11 f blankSite (omega arith) ∙ tab-same 11 _ f (λ k l. rw (lt-ltb k 11 l))
 
 module _ (g : DcSwitchingSimulator) (o : SweepOrder) where
   abbrev x : Common
