@@ -2,3 +2,4 @@ pub mod Found
 pub mod Phases
 pub mod Ways
 pub mod Claims
+pub mod Tied

@@ -1,1 +1,2 @@
 pub mod AllSteps
+pub mod Tied

@@ -47,6 +47,9 @@ use Rattle.fault_sweep.specs.Advance.{sweepBroken, casesFor, sweepWith, 
 use Rattle.sweep_cases.specs.Plans.{commonOf, planFor}
 use Rattle.fault_sweep.proofs.Shown.{row-eight, swept, from-is}
 
+back : (a b : ℕ) → a + b - a ≡ b
+back a b = omega arith
+
 one-at-most : (x : Option (List ℕ)) → length (toList x) ≤ 1
 one-at-most none = omega arith
 one-at-most (some r) = omega arith
@@ -113,7 +116,8 @@ module _ (g : DcSwitchingSimulator) (o : SweepOrder) (flow : DcGridSolution) whe
             let t = leb-true (n - made) (allowance - steps) (left (leb (n - made) (allowance - steps)) (ltb out space) (is-b ∙ h)) in
             omega (arith, i .going .steps-ok)
 
-        in-space : out < space
+        -- and there is room for a row
+        pub in-space : out < space
         in-space = ltb-true out space (right (leb (n - made) (allowance - steps)) (ltb out space) (is-b ∙ h))
 
         -- its row has its space
@@ -166,7 +170,7 @@ module _ (g : DcSwitchingSimulator) (o : SweepOrder) (flow : DcGridSolution) whe
         unfolding swept
         leaves c′ is-c =
             let short : m ≡ min (allowance - steps) (stepsOf g - made - 1) = is-m ∙ rw (i .n-is) in
-            let e : made + m - made ≡ m = omega arith in
+            let e : made + m - made ≡ m = back made m in
             let same : c′ ≡ caseFrom g (faultOf o k) made c m = by-plan m c′ (is-c ∙ rw e) in
             rw (same, short, ← from-is g o flow (i .accepted) (min (allowance - steps) (stepsOf g - made - 1)) k made c)
             (leaves-it (swept g o flow (i .accepted)) k made c (i .going) open-here few-made refl (test-is ∙ h))

@@ -63,17 +63,20 @@ impl Sweep {
                 fresh = true;
             } else {
                 let count = steps_left_open(left, allowed);
+                let end = made + count;
+                let c_end = make_steps(common, k, made, end, c);
+                let steps_end = steps + count;
                 return AdvancedSweep {
-                    stop: reason(false, steps + count == allowance),
-                    steps: steps + count,
+                    stop: reason(false, steps_end == allowance),
+                    steps: steps_end,
                     rows: out as u64,
                     sweep: Sweep {
                         grid: g,
                         order,
                         flow,
                         case_number: k,
-                        steps_made: made + count,
-                        open_case: make_steps(common, k, made, made + count, c),
+                        steps_made: end,
+                        open_case: c_end,
                     },
                 };
             }
