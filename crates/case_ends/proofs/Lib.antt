@@ -2,4 +2,5 @@ pub mod Found
 pub mod Phases
 pub mod Ways
 pub mod Claims
+mod Controls
 pub mod Tied
