@@ -19,8 +19,9 @@ use Rattle.case_steps.specs.OpenCases.{outcomeIn}
 use Rattle.case_steps.specs.Plans.{planCaseFrom, planCaseStep}
 use Rattle.case_ends.specs.Ends.{windowBy, sumsIn, sumsAt, outcomeFrom, endBy}
 use Rattle.case_ends.specs.Claims.{EndClaims}
-use Rattle.case_ends.proofs.Found.{Found, found}
-use Rattle.case_ends.proofs.Phases.{active, clears, current, heat, Same, waiting, Summed, last-step, lasting, split, summed-split, settled}
+use Rattle.fault_window.proofs.Found.{Found, found}
+use Rattle.case_ends.proofs.Phases.{active, clears, current, heat, Same, waiting, Summed, last-step, lasting, split, settled}
+use Rattle.fault_sums.proofs.Blocks.{sums-split}
 
 module _ (p : FaultPlan) (first : ℕ) (c : OpenCase) where
   -- the two branches of `endBy`
@@ -112,8 +113,7 @@ module _ (p : FaultPlan) (first : ℕ) (c : OpenCase) where
         next-sums : sumsFrom (current p) (heat p) from (sumsIn c) (suc last - from) ≡ sumStep (heat p) (current p last) sums
         unfolding sumsFrom
         next-sums =
-            let m : suc last - from ≡ ends .skipped + 1 = omega (arith, ends .place) in
-            rw (m, summed-split p (ends .skipped) from 1 (sumsIn c), ← ends .place)
+            sums-split (heat p) (current p) from (ends .skipped) 1 last (suc last - from) (sumsIn c) (ends .place) (omega (arith, ends .place))
 
         next-case : planCaseFrom p first c (suc last - first) ≡ closed
         unfolding planCaseFrom

@@ -1,4 +1,3 @@
-pub mod Found
 pub mod Phases
 pub mod Ways
 pub mod Claims

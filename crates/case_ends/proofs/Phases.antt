@@ -21,7 +21,7 @@ use Rattle.case_steps.specs.declared.open_case.OpenCase.{OpenCase}
 use Rattle.case_steps.specs.OpenCases.{outcomeIn, countsAt, clearingAfter, stepped}
 use Rattle.case_steps.specs.Plans.{planShows, planCaseStep, planCaseFrom}
 use Rattle.case_ends.specs.Ends.{sumsIn}
-use Rattle.case_ends.proofs.Found.{None}
+use Rattle.fault_window.proofs.Found.{None}
 
 -- ---- a step of the variables
 
@@ -162,11 +162,3 @@ module _ (p : FaultPlan) where
       let e : suc a + b ≡ suc (a + b) = omega arith in
       let f : first + suc a ≡ suc first + a = omega arith in
       rw (e, f) (split a (suc first) b (planCaseStep p first c))
-
-  pub summed-split : (a step b : ℕ) (s : Sums) → sumsFrom current heat step s (a + b) ≡ sumsFrom current heat (step + a) (sumsFrom current heat step s a) b
-  unfolding sumsFrom
-  summed-split zero step b s = let e : 0 + b ≡ b = omega arith in rw (e, add-zero)
-  summed-split (suc a) step b s =
-      let e : suc a + b ≡ suc (a + b) = omega arith in
-      let f : step + suc a ≡ suc step + a = omega arith in
-      rw (e, f) (summed-split a (suc step) b (sumStep heat (current step) s))

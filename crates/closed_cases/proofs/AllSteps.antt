@@ -38,7 +38,7 @@ use Rattle.case_ends.specs.declared.ends.SiteEnds.{SiteEnds}
 use Rattle.case_ends.specs.Ends.{windowBy, endBy, ofType, siteOf}
 use Rattle.case_ends.proofs.Claims.{end-claims}
 use Rattle.sweep_cases.specs.declared.cases.Common.{Common}
-use Rattle.sweep_cases.specs.Plans.{commonOf, planAt, planFor}
+use Rattle.sweep_cases.specs.Plans.{windowFor, commonOf, planAt, planFor}
 use Rattle.closed_cases.specs.declared.cable.CableEnds.{CableEnds}
 use Rattle.closed_cases.specs.Cables.{windowIn, endFor, blankSite, tried, siteAt, cableOf, inSite, wholeCable, heldFor, closedBy}
 
@@ -102,7 +102,7 @@ all-sites f = upto-padded 11 11 f blankSite (omega arith) ∙ tab-same 11 _ f (�
 
 module _ (g : DcSwitchingSimulator) (o : SweepOrder) where
   abbrev x : Common
-  x = commonOf g o
+  x = commonOf g o true
 
   -- what is held is what the cable's cases lead to
   abbrev pub Holding : CableEnds → Type 0
@@ -122,7 +122,7 @@ module _ (g : DcSwitchingSimulator) (o : SweepOrder) where
 
   -- the steps in which a fault lasts are those of its plan
   window-is : (place : CasePlace) (made : ℕ) (active : Bool) → windowIn (x .window) (planAt x place .constants) (x .«n_steps») made active ≡ windowBy (planAt x place) active made (x .«n_steps»)
-  unfolding commonOf constantsOf faultIn circuitAt
+  unfolding commonOf windowFor constantsOf faultIn circuitAt
   window-is place made active =
       by-test (eqb made 0 && not active)
       (λ e.

@@ -1,6 +1,6 @@
 -- The loop of a sweep's advance, a case to a turn. Assumes nothing.
 use Prim.Native.Nat.{ℕ, suc, _+_, _-_, _*_, _/_, _≤_, _<_, min}
-use native.Mathlib.Nat.{div-le-self}
+use native.Mathlib.Nat.{div-le-self, sub-zero}
 use native.Mathlib.Numerals.{add-one}
 use native.Mathlib.Omega.{arith}
 use mathlib.Core.Path.{_≡_, refl, sym, ap, _∙_}
@@ -71,21 +71,22 @@ module _ (g : DcSwitchingSimulator) (o : SweepOrder) (flow : DcGridSolution) whe
       (λ t. rw t))
 
   -- what the loop knows: what was worked out before it, and the call so far
-  pub record Inside (s₀ : Sweep) (allowance : ℕ) (lent₀ : List ℕ) (n cases space : ℕ) (common : Common) (lent : List ℕ) (k made : ℕ) (c : OpenCase) (fresh : Bool) (ends : CableEnds) (steps out : ℕ) : Type 0 where
+  pub record Inside (s₀ : Sweep) (allowance : ℕ) (lent₀ : List ℕ) (n cases space : ℕ) (closing : Bool) (common : Common) (lent : List ℕ) (k made : ℕ) (c : OpenCase) (fresh : Bool) (ends : CableEnds) (steps out : ℕ) : Type 0 where
     pub accepted : sweepRefusal g o ≡ 0
     pub n-is : n ≡ stepsOf g
     pub few : n ≤ mostSteps
     pub cases-are : cases ≡ casesOf g o
     pub space-is : space ≡ length lent₀ / 8
-    pub common-is : common ≡ commonOf g o
+    pub common-is : common ≡ commonOf g o closing
+    pub closing-is : leb (n - made) (allowance - steps) ≡ true → closing ≡ true
     pub going : Going sweepStepper s₀ allowance lent₀ (keptAt g o flow k made c) lent steps out
     pub number-ok : k ≤ cases
     pub made-ok : made < n
     pub ends-are : Holding g o ends
     pub fresh-is : fresh ≡ true → k < cases → (made ≡ 0) × (c ≡ startCase g)
 
-  module _ {s₀ : Sweep} {allowance : ℕ} {lent₀ : List ℕ} {n cases space : ℕ} {common : Common} {lent : List ℕ} {k made : ℕ} {c : OpenCase} {fresh : Bool} {ends : CableEnds} {steps out : ℕ}
-      (i : Inside s₀ allowance lent₀ n cases space common lent k made c fresh ends steps out) where
+  module _ {s₀ : Sweep} {allowance : ℕ} {lent₀ : List ℕ} {n cases space : ℕ} {closing : Bool} {common : Common} {lent : List ℕ} {k made : ℕ} {c : OpenCase} {fresh : Bool} {ends : CableEnds} {steps out : ℕ}
+      (i : Inside s₀ allowance lent₀ n cases space closing common lent k made c fresh ends steps out) where
     -- no case is left
     pub finishes : cases ≤ k → Came sweepStepper s₀ allowance lent₀ steps out Finished (keptAt g o flow k made c) lent
     finishes l = came-finished sweepStepper (i .going) (eq-eqb k (casesOf g o) (omega (arith, i .number-ok, i .cases-are)))
@@ -110,10 +111,13 @@ module _ (g : DcSwitchingSimulator) (o : SweepOrder) (flow : DcGridSolution) whe
       -- ---- the call closes the case
 
       module _ (h : b ≡ true) where
+        enough : leb (n - made) (allowance - steps) ≡ true
+        enough = left (leb (n - made) (allowance - steps)) (ltb out space) (is-b ∙ h)
+
         -- its steps are allowed
         pub steps-allowed : steps + (n - made) ≤ allowance
         steps-allowed =
-            let t = leb-true (n - made) (allowance - steps) (left (leb (n - made) (allowance - steps)) (ltb out space) (is-b ∙ h)) in
+            let t = leb-true (n - made) (allowance - steps) enough in
             omega (arith, i .going .steps-ok)
 
         -- and there is room for a row
@@ -135,14 +139,15 @@ module _ (g : DcSwitchingSimulator) (o : SweepOrder) (flow : DcGridSolution) whe
             → (w : ℕ) → w ≡ length (toList (rowFor g o flow k x))
             → (lent′ : List ℕ) → lent′ ≡ sets lent (8 * out) (joined (toList (rowFor g o flow k x)))
             → (d : OpenCase) → d ≡ cond (eqb (k + 1) cases) noCase (startCase g)
-            → Inside s₀ allowance lent₀ n cases space common lent′ (k + 1) 0 d true ends′ (steps + (n - made)) (out + w)
+            → Inside s₀ allowance lent₀ n cases space closing common lent′ (k + 1) 0 d true ends′ (steps + (n - made)) (out + w)
         unfolding swept
         closes ends′ is-ends x is-x w is-w lent′ is-lent d is-d =
             let N = stepsOf g in
             let holding = still-holding g o ends k (allowance - steps) (space - out) (i .ends-are) in
-            let here : ends′ ≡ heldFor (commonOf g o) ends k (allowance - steps) (space - out) = is-ends ∙ rw (i .common-is) in
+            let whole : common ≡ commonOf g o true = i .common-is ∙ ap (commonOf g o) (i .closing-is enough) in
+            let here : ends′ ≡ heldFor (commonOf g o true) ends k (allowance - steps) (space - out) = is-ends ∙ rw whole in
             let same : x ≡ outcomeIn (caseFrom g (faultOf o k) made c (N - made)) =
-                is-x ∙ rw (here, i .common-is) (closed-is g o (i .accepted) k made c fresh (heldFor (commonOf g o) ends k (allowance - steps) (space - out)) holding (λ f. i .fresh-is f l)) in
+                is-x ∙ rw (here, whole) (closed-is g o (i .accepted) k made c fresh (heldFor (commonOf g o true) ends k (allowance - steps) (space - out)) holding (λ f. i .fresh-is f l)) in
             let there : strides.caseFrom (swept g o flow (i .accepted)) k made c (N - made) ≡ caseFrom g (faultOf o k) made c (N - made) = from-is g o flow (i .accepted) (N - made) k made c in
             let gone = closes-it (swept g o flow (i .accepted)) k made c (i .going) open-here few-made refl (test-is ∙ h) (λ r q. row-eight g o flow k _ r q) lent′ (is-lent ∙ rw (same, there)) in
             record {
@@ -152,6 +157,7 @@ module _ (g : DcSwitchingSimulator) (o : SweepOrder) (flow : DcGridSolution) whe
               cases-are = i .cases-are;
               space-is = i .space-is;
               common-is = i .common-is;
+              closing-is = λ _. i .closing-is enough;
               going = rw (opened-is k d (is-d ∙ rw (i .cases-are)), i .n-is, is-w, same, ← there) gone;
               number-ok = omega arith;
               made-ok = omega (arith, i .made-ok);
@@ -191,9 +197,12 @@ module _ (s : Sweep) (h : sweepBroken s ≡ false) where
       let c = neither (not (eqb r 0)) (ltb n (s .«case_number»)) (b .0) in
       (eqb-true r 0 (not-false (eqb r 0) (c .0)), ltb-false n (s .«case_number») (c .1), leb-false (stepsOf (s .grid)) (s .«steps_made») (b .1))
 
-  pub inside : (allowance : ℕ) (lent₀ : List ℕ) (n cases : ℕ) (common : Common) → n ≡ countedTo (stepsOf (s .grid)) → cases ≡ casesOf (s .grid) (s .order) → common ≡ commonOf (s .grid) (s .order)
-      → Inside (s .grid) (s .order) (s .flow) s allowance lent₀ n cases (length lent₀ / 8) common lent₀ (s .«case_number») (s .«steps_made») (s .«open_case») false noCable 0 0
-  inside allowance lent₀ n cases common is-n are-cases is-common =
+  pub some-left : (n : ℕ) → n ≡ countedTo (stepsOf (s .grid)) → s .«steps_made» < n
+  some-left n is-n = rw (is-n ∙ step-claims .counted (stepsOf (s .grid)) (accepted-claims .sweep (s .grid) (s .order) (let-through .0))) (let-through .2)
+
+  pub inside : (allowance : ℕ) (lent₀ : List ℕ) (n cases : ℕ) (closing : Bool) (common : Common) → closing ≡ leb (n - s .«steps_made») allowance → n ≡ countedTo (stepsOf (s .grid)) → cases ≡ casesOf (s .grid) (s .order) → common ≡ commonOf (s .grid) (s .order) closing
+      → Inside (s .grid) (s .order) (s .flow) s allowance lent₀ n cases (length lent₀ / 8) closing common lent₀ (s .«case_number») (s .«steps_made») (s .«open_case») false noCable 0 0
+  inside allowance lent₀ n cases closing common is-closing is-n are-cases is-common =
       let steps = accepted-claims .sweep (s .grid) (s .order) (let-through .0) in
       let e : n ≡ stepsOf (s .grid) = is-n ∙ step-claims .counted (stepsOf (s .grid)) steps in
       record {
@@ -203,6 +212,7 @@ module _ (s : Sweep) (h : sweepBroken s ≡ false) where
         cases-are = are-cases;
         space-is = refl;
         common-is = is-common;
+        closing-is = λ t. is-closing ∙ (rw sub-zero at t);
         going = going-start sweepStepper s allowance lent₀ h;
         number-ok = rw are-cases (let-through .1);
         made-ok = rw e (let-through .2);

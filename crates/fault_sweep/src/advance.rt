@@ -39,7 +39,9 @@ impl Sweep {
         let n = total_steps(g);
         let cases = case_count(g, order);
         let space = rows.len() / ROW_LENGTH;
-        let common = common_of(g, order);
+        // A call that does not reach the end of the open case closes none.
+        let closes = n - self.steps_made <= allowance;
+        let common = common_of(g, order, closes);
         let mut k = self.case_number;
         let mut made = self.steps_made;
         let mut c = self.open_case;

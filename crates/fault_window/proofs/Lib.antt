@@ -1,8 +1,8 @@
--- Until: the first number for which a test holds
+-- Found: the first number for which a test holds, and those before it
 -- Turns: what a loop that looks for it knows, and what the window is then
 -- Tied: nothing is asked of a caller
 -- Controls: worked examples
-pub mod Until
+pub mod Found
 pub mod Turns
 pub mod Tied
 mod Controls

@@ -27,7 +27,7 @@ module _ (κs : Lfts 0) (a : ArgsD common-contract.signature κs) (r : ResD comm
   pub common-any : common-reads.Asked κs a
   common-any = tt
 
-  pub common-is : common-reads.Learnt κs a r e → r ≡ commonOf (a .0) (a .1 .0)
+  pub common-is : common-reads.Learnt κs a r e → r ≡ commonOf (a .0) (a .1 .0) (a .1 .1 .0)
   common-is h = h
 
 module _ (κs : Lfts 0) (a : ArgsD steps-contract.signature κs) (r : ResD steps-contract.signature κs) (e : AtExit (endedOf 0 steps-kinds.ps steps-kinds.r) κs) where

@@ -9,7 +9,7 @@ ghost use Rattle.portions.specs.Cases.{toList};
 ghost use Rattle.case_steps.specs.OpenCases.{startCase, noCase};
 ghost use Rattle.case_steps.specs.Plans.{planCaseFrom};
 ghost use Rattle.case_listing.specs.Listing.{rowFor};
-ghost use Rattle.sweep_cases.specs.Plans.{lossIn, commonOf, planAt, planFor, roomBehind};
+ghost use Rattle.sweep_cases.specs.Plans.{lossIn, windowFor, commonOf, planAt, planFor, roomBehind};
 use breaker_times::fastest_breaker_clearing_ms;
 use case_reasons::CaseOutcome;
 use case_reasons::ROW_LENGTH;
@@ -37,7 +37,7 @@ use timing::total_steps;
 
 const MOST_CABLES: u64 = 64;
 
-// What the steps of all cases have in common, worked out once for an advance.
+// What all cases have in common, worked out once for an advance.
 pub struct Common {
     pub grid: DcSwitchingSimulator,
     pub order: SweepOrder,
@@ -45,24 +45,17 @@ pub struct Common {
     pub rated_kv: [f64; 96],
     // Of a case.
     pub n_steps: u64,
-    // The steps in which the fault of a case lasts, of a case from its first step: the same for each.
+    // The steps in which the fault of a case lasts, from its first step on: the same for each case. Empty where the call closes none.
     pub window: Window,
 }
 
-pub fn common_of(g: DcSwitchingSimulator, order: SweepOrder) -> Common
-    ensures { λ r. ⌜ r ≡ commonOf g order ⌝ }
+pub fn common_of(g: DcSwitchingSimulator, order: SweepOrder, closes: bool) -> Common
+    ensures { λ r. ⌜ r ≡ commonOf g order closes ⌝ }
 {
     let network = network_of(g);
     let rated_kv = rated_voltages(g);
     let n_steps = total_steps(g);
-    let window = fault_window(
-        time_step_ms(g),
-        order.inception_time_ms,
-        fastest_breaker_clearing_ms(g),
-        false,
-        0,
-        n_steps,
-    );
+    let window = window_of(g, order, n_steps, closes);
     Common {
         grid: g,
         order,
@@ -70,6 +63,27 @@ pub fn common_of(g: DcSwitchingSimulator, order: SweepOrder) -> Common
         rated_kv,
         n_steps,
         window,
+    }
+}
+
+// Only for a call that closes cases: one of a few steps is not to look through all steps of a case.
+fn window_of(g: DcSwitchingSimulator, order: SweepOrder, n_steps: u64, closes: bool) -> Window
+    ensures { λ r. ⌜ r ≡ windowFor g order «n_steps» closes ⌝ }
+{
+    if closes {
+        return fault_window(
+            time_step_ms(g),
+            order.inception_time_ms,
+            fastest_breaker_clearing_ms(g),
+            false,
+            0,
+            n_steps,
+        );
+    }
+    Window {
+        from: 0,
+        to: 0,
+        clears: false,
     }
 }
 

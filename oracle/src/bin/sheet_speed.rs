@@ -1,4 +1,4 @@
-//! Times the program `sweep` on five sheets beside `sheet_sweep`, which runs the published fault run for each case: from the start of
+//! Times the program `sweep` on sheets of some sizes beside `sheet_sweep`, which runs the published fault run for each case: from the start of
 //! each process to its end, the best of some rounds in turns. Their listings must be the same.
 
 use std::fmt::Write as _;
@@ -8,7 +8,7 @@ use std::process::{exit, Command, Stdio};
 use std::time::Instant;
 use std::{env, thread};
 
-const USAGE: &str = "sheet_speed PROGRAM [ROUNDS [NAME..]]   times PROGRAM on five sheets, or those of the names, beside sheet_sweep";
+const USAGE: &str = "sheet_speed PROGRAM [ROUNDS [NAME..]]   times PROGRAM on its sheets, or those of the names, beside sheet_sweep";
 
 /// A sheet that is timed: tenths 1 to 10 of each cable, in steps of a microsecond.
 struct Timed {
@@ -16,46 +16,55 @@ struct Timed {
     /// Stations, cables, breakers.
     counts: [u64; 3],
     steps: u64,
-    ohms: u64,
+    /// Of the fault.
+    ohms: &'static str,
     clearing_ms: &'static str,
 }
 
 const NEVER_MS: &str = "10000";
 
-const SHEETS: [Timed; 5] = [
+const SHEETS: [Timed; 6] = [
     Timed {
         name: "pair",
         counts: [2, 1, 2],
         steps: 200_000,
-        ohms: 10,
+        ohms: "0.1",
         clearing_ms: NEVER_MS,
     },
     Timed {
         name: "planner",
         counts: [12, 16, 12],
         steps: 25_000,
-        ohms: 10,
+        ohms: "0.1",
         clearing_ms: "0.1",
     },
     Timed {
         name: "planner-late",
         counts: [12, 16, 12],
         steps: 5_000,
-        ohms: 10,
+        ohms: "0.1",
         clearing_ms: NEVER_MS,
     },
     Timed {
         name: "full",
         counts: [32, 64, 32],
         steps: 1_000,
-        ohms: 10,
+        ohms: "0.1",
+        clearing_ms: NEVER_MS,
+    },
+    // As full, detected after 40 steps and more.
+    Timed {
+        name: "full-10",
+        counts: [32, 64, 32],
+        steps: 1_000,
+        ohms: "10",
         clearing_ms: NEVER_MS,
     },
     Timed {
         name: "weak",
         counts: [12, 16, 12],
         steps: 5_000,
-        ohms: 1_000_000,
+        ohms: "1000000",
         clearing_ms: NEVER_MS,
     },
 ];

@@ -224,6 +224,9 @@ fn cut_down(sheet: &[u8], mut differs: impl FnMut(&[u8]) -> bool) -> Vec<u8> {
     lines.concat()
 }
 
+/// Of a case whose detection is shown in the counts.
+const MOST_STEPS_SHOWN: u64 = 5_000;
+
 /// What was met, group by group.
 #[derive(Default)]
 struct Met(BTreeMap<(&'static str, String), u64>);
@@ -248,6 +251,12 @@ impl Met {
             self.count(reasons, format!("{:>2}", 0), cases - rows.len() as u64);
             for row in rows {
                 self.count(reasons, format!("{:>2}", row[3]), 1);
+            }
+            // The states of all steps are kept for it, so not of long cases.
+            if sweep.steps() <= MOST_STEPS_SHOWN {
+                for &case in &sweep.cases {
+                    self.count("cases by when they are detected", sweep.detected_when(case), 1);
+                }
             }
             self.add_parts(&sheet.bytes, &sweep.grid);
         }

@@ -130,6 +130,26 @@ impl Sweep {
             .collect()
     }
 
+    /// When a case is detected, in words: the first such step that reason 8 counts.
+    pub fn detected_when(&self, case: Case) -> &'static str {
+        let mut step = 0;
+        let mut clearing = None;
+        self.watch(case, self.steps(), |_, is_cleared| {
+            if is_cleared && clearing.is_none() {
+                clearing = Some(step);
+            }
+            step += 1;
+        });
+        let counted = |&step: &u64| clearing.map_or(true, |last| step <= last);
+        match self.detected_steps(case).into_iter().find(counted) {
+            None => "never",
+            found if found == clearing => "at the clearing step",
+            Some(1..=3) => "in the first three steps",
+            Some(4..=99) => "before step 100",
+            Some(_) => "later",
+        }
+    }
+
     /// Of a case with all of its steps made.
     pub fn reasons(&self, case: Case, closed: &Opened) -> u64 {
         let cleared = closed.variables.fault_cleared;

@@ -1,7 +1,7 @@
 -- `advance` meets its contract. Assumes nothing.
 use Rattle.fault_sweep.specs.KeptSweep.{keptAt}
 use Rattle.fault_sweep.specs.Advance.{sweepStepper}
-use Rattle.fault_sweep.proofs.SweepLoop.{Inside, inside, steps-allowed, in-space, room, more-rows, few-steps, leaves, closes, finishes, returned}
+use Rattle.fault_sweep.proofs.SweepLoop.{Inside, some-left, inside, steps-allowed, in-space, room, more-rows, few-steps, leaves, closes, finishes, returned}
 use Rattle.portions.proofs.Loop.{came-refused}
 use native.Mathlib.Omega.{arith}
 use Prim.Native.Nat.{ℕ, _+_, _-_, _≤_}
@@ -15,15 +15,15 @@ use Rattle.fault_sweep.proofs.sweep.Sweep.advance.Statement.{statement}
 use Rattle.fault_sweep.proofs.sweep.Sweep.advance.Tie as tie
 
 abbrev Inv-loop : tie.InvT-loop
-Inv-loop allowance rows₀ g order flow n cases space common k₀ made₀ c₀ fresh₀ ends₀ steps₀ out₀ rows k made c fresh ends steps out =
-    Inside g order flow (keptAt g order flow k₀ made₀ c₀) allowance rows₀ n cases space common rows k made c fresh ends steps out
+Inv-loop allowance rows₀ g order flow n cases space closing common k₀ made₀ c₀ fresh₀ ends₀ steps₀ out₀ rows k made c fresh ends steps out =
+    Inside g order flow (keptAt g order flow k₀ made₀ c₀) allowance rows₀ n cases space closing common rows k made c fresh ends steps out
 
 abbrev μ-loop : tie.MeasureT-loop
-μ-loop allowance rows₀ g order flow n cases space common k₀ made₀ c₀ fresh₀ ends₀ steps₀ out₀ rows k made c fresh ends steps out = cases - k
+μ-loop allowance rows₀ g order flow n cases space closing common k₀ made₀ c₀ fresh₀ ends₀ steps₀ out₀ rows k made c fresh ends steps out = cases - k
 
 -- the start of the function, from its loop
 abbrev start : tie.At-loop Inv-loop μ-loop → tie.Start Inv-loop μ-loop
-start l = l .before .before .before .before .before .before .before .before .before .before .before .before
+start l = l .before .before .before .before .before .before .before .before .before .before .before .before .before
 
 -- what is written where a whole row fits
 with-room : (n len r x : ℕ) (m y rows : List ℕ) → n ≤ len → (r ≡ cond (leb n len) x 0) × (m ≡ cond (leb n len) y rows) → (r ≡ x) × (m ≡ y)
@@ -50,6 +50,12 @@ total-steps-requires c κs = search needs
 case-count-requires : tie.Need-case-count-requires Inv-loop μ-loop
 case-count-requires c κs = search needs
 
+sub-closes : tie.Need-sub-closes Inv-loop μ-loop
+sub-closes c =
+    let n = c .before .before in
+    let i = n .before .before .before .before in
+    omega (arith, some-left (i .before .before .before .args .self) (sym (i .before .is-broken .ensures) ∙ i .if1 .left) _ (n .total-steps .ensures))
+
 common-of-requires : tie.Need-common-of-requires Inv-loop μ-loop
 common-of-requires c κs = search needs
 
@@ -59,11 +65,11 @@ no-cable-ends-requires c κs = search needs
 loop-holds : tie.Need-loop-holds Inv-loop μ-loop
 loop-holds c =
     let x = c .before .before in
-    let k = x .before in
+    let k = x .before .before in
     let n = k .before in
     let i = n .before .before .before .before in
     rw (c .no-cable-ends .ensures)
-    (inside (i .before .before .before .args .self) (sym (i .before .is-broken .ensures) ∙ i .if1 .left) _ _ _ _ _ (n .total-steps .ensures) (k .case-count .ensures) (x .common-of .ensures))
+    (inside (i .before .before .before .args .self) (sym (i .before .is-broken .ensures) ∙ i .if1 .left) _ _ _ _ _ _ refl (n .total-steps .ensures) (k .case-count .ensures) (x .common-of .ensures))
 
 sub-left : tie.Need-sub-left Inv-loop μ-loop
 sub-left c = omega (arith, c .before .loop .inv .made-ok)
@@ -159,6 +165,7 @@ advance-spec =
     returns
     total-steps-requires
     case-count-requires
+    sub-closes
     common-of-requires
     no-cable-ends-requires
     loop-holds
