@@ -72,17 +72,18 @@ module _ (p : FaultPlan) where
   unfolding planCaseStep planStep afterClearing
   settled-step step c e =
       let v = c .variables in
-      let after = afterClearing (planSetting p) (timeAt (p .constants .«dt_ms») step) v in
-      (rw (over (planSetting p) step v e, e)
-      (λ i.
-      record {
-        cleared = true;
-        «clearing_current_ka» = c .«clearing_current_ka»;
-        «energy_mj» = v .«energy_mj»;
-        «peak_fault_ka» = v .«peak_fault_ka»;
-        detected = uncounted (c .detected) (leb 1 step) (planShows p c after) i;
-      }),
-      rw (over (planSetting p) step v e))
+      let after = afterClearing (planSetting p) (timeAt (p .constants .«dt_ms») step) v in (
+        rw (over (planSetting p) step v e, e)
+            (λ i.
+            record {
+              cleared = true;
+              «clearing_current_ka» = c .«clearing_current_ka»;
+              «energy_mj» = v .«energy_mj»;
+              «peak_fault_ka» = v .«peak_fault_ka»;
+              detected = uncounted (c .detected) (leb 1 step) (planShows p c after) i;
+            }),
+        rw (over (planSetting p) step v e),
+      )
 
   pub settled : (n first : ℕ) (c : OpenCase) → c .variables .«fault_cleared» ≡ true → outcomeIn (planCaseFrom p first c n) ≡ outcomeIn c
   unfolding planCaseFrom
@@ -144,14 +145,15 @@ module _ (p : FaultPlan) where
   lasting (suc m) step c s e a is-peak is-energy none =
       let one = last-step step c s e a is-peak is-energy in
       let rest = lasting m (suc step) (planCaseStep p step c) (sumStep heat (current step) s) (one .cleared-is ∙ none .0) (rw (stays-active step c e a)) (one .peak-is) (one .energy-is) (none .1) in
-      let f : step + suc m ≡ suc step + m = omega arith in
-      (record {
-        cleared-is = rest .0 .cleared-is;
-        peak-is = rest .0 .peak-is;
-        energy-is = rest .0 .energy-is;
-        current-is = rest .0 .current-is ∙ one .current-is ∙ rw (none .0);
-      },
-      rw f (rest .1))
+      let f : step + suc m ≡ suc step + m = omega arith in (
+        record {
+          cleared-is = rest .0 .cleared-is;
+          peak-is = rest .0 .peak-is;
+          energy-is = rest .0 .energy-is;
+          current-is = rest .0 .current-is ∙ one .current-is ∙ rw (none .0);
+        },
+        rw f (rest .1),
+      )
 
   -- ---- so many steps, and so many more
 

@@ -32,22 +32,22 @@ site tenth = record { ground = peak (10 * tenth); pole = peak (10 * tenth + 1); 
 second : Bool → CableEnds
 second held = record { held = held; cable = 1; sites = tab 11 site }
 
-module _ (g : DcSwitchingSimulator) (made : ℕ) (c : OpenCase) where
+module _ (g : DcSwitchingSimulator) (closes : Bool) (made : ℕ) (c : OpenCase) where
   -- the first case on that cable, a fault from pole to pole and one inside the converter at tenth 5, and the last
   looked-up
-      : (closedBy (commonOf g order) (second true) true 15 made c ≡ peak 20)
-      × (closedBy (commonOf g order) (second true) true 23 made c ≡ peak 51)
-      × (closedBy (commonOf g order) (second true) true 28 made c ≡ peak 52)
-      × (closedBy (commonOf g order) (second true) true 29 made c ≡ peak 62)
+      : (closedBy (commonOf g order closes) (second true) true 15 made c ≡ peak 20)
+      × (closedBy (commonOf g order closes) (second true) true 23 made c ≡ peak 51)
+      × (closedBy (commonOf g order closes) (second true) true 28 made c ≡ peak 52)
+      × (closedBy (commonOf g order closes) (second true) true 29 made c ≡ peak 62)
   unfolding closedBy commonOf order peak site second tab
   looked-up = (refl, refl, refl, refl)
 
   -- the last case of the cable before, the first of the one after, a case that is not fresh, and one where nothing is held
   worked-out
-      : (closedBy (commonOf g order) (second true) true 14 made c ≡ endFor (commonOf g order) (record { cable = 0; «fault_type» = 2; tenth = 6 }) made c)
-      × (closedBy (commonOf g order) (second true) true 30 made c ≡ endFor (commonOf g order) (record { cable = 2; «fault_type» = 0; tenth = 2 }) made c)
-      × (closedBy (commonOf g order) (second true) false 23 made c ≡ endFor (commonOf g order) (record { cable = 1; «fault_type» = 1; tenth = 5 }) made c)
-      × (closedBy (commonOf g order) (second false) true 23 made c ≡ endFor (commonOf g order) (record { cable = 1; «fault_type» = 1; tenth = 5 }) made c)
+      : (closedBy (commonOf g order closes) (second true) true 14 made c ≡ endFor (commonOf g order closes) (record { cable = 0; «fault_type» = 2; tenth = 6 }) made c)
+      × (closedBy (commonOf g order closes) (second true) true 30 made c ≡ endFor (commonOf g order closes) (record { cable = 2; «fault_type» = 0; tenth = 2 }) made c)
+      × (closedBy (commonOf g order closes) (second true) false 23 made c ≡ endFor (commonOf g order closes) (record { cable = 1; «fault_type» = 1; tenth = 5 }) made c)
+      × (closedBy (commonOf g order closes) (second false) true 23 made c ≡ endFor (commonOf g order closes) (record { cable = 1; «fault_type» = 1; tenth = 5 }) made c)
   unfolding closedBy commonOf order second
   worked-out = (refl, refl, refl, refl)
 

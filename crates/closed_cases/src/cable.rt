@@ -39,7 +39,13 @@ pub fn ends_held(common: Common, before: CableEnds, k: u64, allowed: u64, room: 
 }
 
 // It stands before the first case of a cable, and steps and rows are left for all of them.
-fn closes_cable(order: SweepOrder, place: CasePlace, n_steps: u64, allowed: u64, room: usize) -> bool
+fn closes_cable(
+    order: SweepOrder,
+    place: CasePlace,
+    n_steps: u64,
+    allowed: u64,
+    room: usize,
+) -> bool
     ensures { λ r. ⌜ r ≡ wholeCable order place «n_steps» allowed room ⌝ }
 {
     let cases = FAULT_TYPES * tenth_count(order);

@@ -147,7 +147,7 @@ module _ (g : DcSwitchingSimulator) (o : SweepOrder) (flow : DcGridSolution) whe
             let whole : common ≡ commonOf g o true = i .common-is ∙ ap (commonOf g o) (i .closing-is enough) in
             let here : ends′ ≡ heldFor (commonOf g o true) ends k (allowance - steps) (space - out) = is-ends ∙ rw whole in
             let same : x ≡ outcomeIn (caseFrom g (faultOf o k) made c (N - made)) =
-                is-x ∙ rw (here, whole) (closed-is g o (i .accepted) k made c fresh (heldFor (commonOf g o true) ends k (allowance - steps) (space - out)) holding (λ f. i .fresh-is f l)) in
+            is-x ∙ rw (here, whole) (closed-is g o (i .accepted) k made c fresh (heldFor (commonOf g o true) ends k (allowance - steps) (space - out)) holding (λ f. i .fresh-is f l)) in
             let there : strides.caseFrom (swept g o flow (i .accepted)) k made c (N - made) ≡ caseFrom g (faultOf o k) made c (N - made) = from-is g o flow (i .accepted) (N - made) k made c in
             let gone = closes-it (swept g o flow (i .accepted)) k made c (i .going) open-here few-made refl (test-is ∙ h) (λ r q. row-eight g o flow k _ r q) lent′ (is-lent ∙ rw (same, there)) in
             record {
