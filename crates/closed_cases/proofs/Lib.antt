@@ -1,2 +1,3 @@
 pub mod AllSteps
+mod Controls
 pub mod Tied
