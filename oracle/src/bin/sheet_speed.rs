@@ -8,7 +8,9 @@ use std::process::{exit, Command, Stdio};
 use std::time::Instant;
 use std::{env, thread};
 
-const USAGE: &str = "sheet_speed PROGRAM [ROUNDS [NAME..]]   times PROGRAM on its sheets, or those of the names, beside sheet_sweep";
+const USAGE: &str = "\
+sheet_speed PROGRAM [ROUNDS [NAME..]]   times PROGRAM on its sheets, or those of the names, beside sheet_sweep
+sheet_speed PROGRAM growth              times PROGRAM alone on sheets that grow in steps, in cables and in breakers";
 
 /// A sheet that is timed: tenths 1 to 10 of each cable, in steps of a microsecond.
 struct Timed {
@@ -131,12 +133,37 @@ fn run(program: &PathBuf, sheet: &str) -> (Vec<u8>, f64) {
     (output.stdout, took)
 }
 
+/// How the time of a program grows, one size at a time.
+fn growth(program: &PathBuf) {
+    let sheet = |counts, steps| Timed {
+        name: "",
+        counts,
+        steps,
+        ohms: "0.1",
+        clearing_ms: NEVER_MS,
+    };
+    let mut sheets = Vec::new();
+    sheets.extend([1_000, 10_000, 100_000, 1_000_000].map(|steps| sheet([2, 1, 2], steps)));
+    sheets.extend([1, 4, 16, 64].map(|cables| sheet([32, cables, 32], 1_000)));
+    sheets.extend([0, 1, 8, 32].map(|breakers| sheet([32, 64, breakers], 1_000)));
+    println!("{:>8} {:>6} {:>8} {:>10} {:>12}", "stations", "cables", "breakers", "steps", "sweep, ms");
+    for sheet in sheets {
+        let text = sheet.text();
+        let best = (0..15).map(|_| run(program, &text).1).fold(f64::MAX, f64::min);
+        let [n, cables, breakers] = sheet.counts;
+        println!("{n:>8} {cables:>6} {breakers:>8} {:>10} {:>12.2}", sheet.steps, best * 1e3);
+    }
+}
+
 fn main() {
     let words: Vec<String> = env::args().skip(1).collect();
     let Some(program) = words.first().map(PathBuf::from) else {
         eprintln!("{USAGE}");
         exit(2);
     };
+    if words.get(1).is_some_and(|word| word == "growth") {
+        return growth(&program);
+    }
     let rounds = words.get(1).map_or(3, |w| w.parse().unwrap_or(3)).max(1);
     let names = words.get(2..).unwrap_or_default();
     let own = env::current_exe().expect("it has a path").with_file_name("sheet_sweep");
