@@ -212,6 +212,8 @@ fn with_pieces(hooks: &str, module: &str) -> String {
     text
 }
 
+const MISSING: &str = "The published module belongs in ../shared/docs/src beside the repository, or in the folder that WENGLUI_SOURCE names, as src/network/dc_switching.rs";
+
 fn main() {
     println!("cargo:rerun-if-env-changed=WENGLUI_SOURCE");
     let folder = env::var("WENGLUI_SOURCE").unwrap_or("../../shared/docs/src".to_string());
@@ -220,7 +222,7 @@ fn main() {
     println!("cargo:rerun-if-changed={HOOKS}");
     println!("cargo:rerun-if-changed=build.rs");
     let published =
-        fs::read_to_string(&source).unwrap_or_else(|e| panic!("{}: {e}", source.display()));
+        fs::read_to_string(&source).unwrap_or_else(|e| panic!("{}: {e}. {MISSING}", source.display()));
     let hooks = fs::read_to_string(HOOKS).unwrap_or_else(|e| panic!("{HOOKS}: {e}"));
 
     // A file of its own, since a text that begins with comments on its module cannot be included.
