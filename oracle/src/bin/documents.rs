@@ -63,7 +63,7 @@ impl Known {
 /// What stands between backquotes, word by word.
 fn names(text: &str) -> Vec<String> {
     let quoted = text.split('`').skip(1).step_by(2);
-    let words = quoted.flat_map(|q| q.split([' ', ',', '(', ')', '=']));
+    let words = quoted.flat_map(|q| q.split([' ', ',', '(', ')', '=', '[', ']']));
     let named = |w: &&str| w.chars().any(char::is_alphabetic);
     words.filter(named).map(str::to_string).collect()
 }
