@@ -25,7 +25,7 @@ struct Timed {
 
 const NEVER_MS: &str = "10000";
 
-const SHEETS: [Timed; 6] = [
+const SHEETS: [Timed; 8] = [
     Timed {
         name: "pair",
         counts: [2, 1, 2],
@@ -54,7 +54,21 @@ const SHEETS: [Timed; 6] = [
         ohms: "0.1",
         clearing_ms: NEVER_MS,
     },
-    // As full, detected after 40 steps and more.
+    // The three before with 10 ohms: it takes tens to hundreds of steps until one is detected, and at times none is.
+    Timed {
+        name: "planner-10",
+        counts: [12, 16, 12],
+        steps: 25_000,
+        ohms: "10",
+        clearing_ms: "0.1",
+    },
+    Timed {
+        name: "planner-late-10",
+        counts: [12, 16, 12],
+        steps: 5_000,
+        ohms: "10",
+        clearing_ms: NEVER_MS,
+    },
     Timed {
         name: "full-10",
         counts: [32, 64, 32],
@@ -167,7 +181,7 @@ fn main() {
     let rounds = words.get(1).map_or(3, |w| w.parse().unwrap_or(3)).max(1);
     let names = words.get(2..).unwrap_or_default();
     let own = env::current_exe().expect("it has a path").with_file_name("sheet_sweep");
-    println!("{:<13} {:>14} {:>12} {:>12} {:>8}", "sheet", "cases x steps", "sweep, ms", "Rust, ms", "times");
+    println!("{:<15} {:>14} {:>12} {:>12} {:>8}", "sheet", "cases x steps", "sweep, ms", "Rust, ms", "times");
     for sheet in SHEETS {
         if !names.is_empty() && !names.iter().any(|name| name == sheet.name) {
             continue;
@@ -188,6 +202,6 @@ fn main() {
             }
         }
         let size = format!("{} x {}", sheet.counts[1] * 30, sheet.steps);
-        println!("{:<13} {:>14} {:>12.2} {:>12.1} {:>8.1}", sheet.name, size, best * 1e3, right * 1e3, right / best);
+        println!("{:<15} {:>14} {:>12.2} {:>12.1} {:>8.1}", sheet.name, size, best * 1e3, right * 1e3, right / best);
     }
 }
