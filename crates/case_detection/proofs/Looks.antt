@@ -48,7 +48,8 @@ no-more : (b : Bool) → (b && not true) ≡ false
 no-more true = refl
 no-more false = refl
 
-uncounted : (d b s : Bool) → (d || ((b && not true) && s)) ≡ d
+-- a step that does not count changes nothing of what is detected
+pub uncounted : (d b s : Bool) → (d || ((b && not true) && s)) ≡ d
 uncounted true b s = refl
 uncounted false true s = refl
 uncounted false false s = refl
@@ -100,15 +101,15 @@ module _ (p : FaultPlan) where
   -- ---- a step of the case is such a step
 
   module _ (step : ℕ) (v : FaultVariables) where
-    lasts : v .«fault_cleared» ≡ false → activeBy (timeOf step) (v .«fault_active») ≡ true → planStep p step v ≡ whileFaulted (planSetting p) (timeOf step) v
+    pub lasts : v .«fault_cleared» ≡ false → activeBy (timeOf step) (v .«fault_active») ≡ true → planStep p step v ≡ whileFaulted (planSetting p) (timeOf step) v
     unfolding planStep body
     lasts c a = rw (c, a)
 
-    waits : v .«fault_cleared» ≡ false → activeBy (timeOf step) (v .«fault_active») ≡ false → planStep p step v ≡ beforeInception (planSetting p) (timeOf step) v
+    pub waits : v .«fault_cleared» ≡ false → activeBy (timeOf step) (v .«fault_active») ≡ false → planStep p step v ≡ beforeInception (planSetting p) (timeOf step) v
     unfolding planStep body
     waits c a = rw (c, a)
 
-    ended : v .«fault_cleared» ≡ true → planStep p step v ≡ afterClearing (planSetting p) (timeOf step) v
+    pub ended : v .«fault_cleared» ≡ true → planStep p step v ≡ afterClearing (planSetting p) (timeOf step) v
     unfolding planStep body
     ended c = rw (c, no-more (activeBy (timeOf step) (v .«fault_active»)))
 

@@ -1,41 +1,32 @@
 -- The claims of specs/Claims. Assumes nothing.
-use Prim.Native.Nat.{ℕ, zero, suc, _+_, _-_, _≤_, _<_}
-use native.Mathlib.Nat.{add-zero}
+use Prim.Native.Nat.{ℕ, suc, _+_, _-_, _≤_, _<_}
 use native.Mathlib.Omega.{arith}
-use mathlib.Core.Path.{_≡_, refl, sym, ap, _∙_}
-use mathlib.Core.Bool.{Bool, true, false, cond}
+use mathlib.Core.Path.{_≡_, sym, ap, _∙_}
+use mathlib.Core.Bool.{true, false, cond}
 use mathlib.Core.Logic.{_⊎_, inl, inr}
 use lib.Dec.{ltb}
 use borrow.Author.Tests.{lt-ltb, le-ltb}
 use Rattle.lists.proofs.Counting.{by-test, lt-or-le}
 use Rattle.fault_plan.specs.declared.plan.FaultPlan.{FaultPlan}
 use Rattle.fault_window.specs.declared.steps.Window.{Window}
-use Rattle.fault_window.specs.Window.{until, windowOf}
+use Rattle.fault_window.specs.Window.{windowOf}
 use Rattle.fault_sums.specs.declared.steps.Sums.{Sums}
 use Rattle.fault_sums.specs.Sums.{sumStep, sumsFrom}
-use Rattle.case_reasons.specs.declared.reasons.CaseOutcome.{CaseOutcome}
 use Rattle.case_steps.specs.declared.open_case.OpenCase.{OpenCase}
 use Rattle.case_steps.specs.OpenCases.{outcomeIn}
 use Rattle.case_steps.specs.Plans.{planCaseFrom, planCaseStep}
-use Rattle.case_ends.specs.Ends.{windowBy, sumsIn, sumsAt, outcomeFrom, endBy}
+use Rattle.case_ends.specs.Ends.{windowBy, sumsIn, sumsAt, endBy}
 use Rattle.case_ends.specs.Claims.{EndClaims}
 use Rattle.fault_window.proofs.Found.{Found, found}
+use Rattle.case_ends.proofs.Ways.{cleared-end, lasting-end}
 use Rattle.case_ends.proofs.Phases.{active, clears, current, heat, Same, waiting, Summed, last-step, lasting, split, settled}
 use Rattle.fault_sums.proofs.Blocks.{sums-split}
 
 module _ (p : FaultPlan) (first : ℕ) (c : OpenCase) where
-  -- the two branches of `endBy`
-  abbrev otherwise : Window → CaseOutcome
-  otherwise w = outcomeFrom w (sumsAt p w c) (c .«clearing_current_ka») (planCaseFrom p first c (w .to - first) .detected)
-
-  picked : {b : Bool} (x : CaseOutcome) → c .variables .«fault_cleared» ≡ b → cond (c .variables .«fault_cleared») (outcomeIn c) x ≡ cond b (outcomeIn c) x
-  picked x e = ap (λ (t : Bool). cond t (outcomeIn c) x) e
-
   -- a case after the steps of a window is at its end
   at-its-end : (w : Window) (d : OpenCase) → c .variables .«fault_cleared» ≡ false → planCaseFrom p first c (w .to - first) ≡ d → Summed p c d (sumsAt p w c) (w .clears) → endBy p first w c ≡ outcomeIn d
-  unfolding endBy
   at-its-end w d e is-d s =
-      picked (otherwise w) e
+      lasting-end p first w c e
       ∙ (λ i.
       record {
         cleared = sym (s .cleared-is) i;
@@ -150,8 +141,7 @@ module _ (p : FaultPlan) (first : ℕ) (c : OpenCase) where
         by-from (inr l) = never l
 
   settles : (n : ℕ) (w : Window) → c .variables .«fault_cleared» ≡ true → endBy p first w c ≡ outcomeIn (planCaseFrom p first c n)
-  unfolding endBy
-  settles n w e = picked (otherwise w) e ∙ sym (settled p n first c e)
+  settles n w e = cleared-end p first w c e ∙ sym (settled p n first c e)
 
   whole : (end : ℕ) → endBy p first (windowBy p (c .variables .«fault_active») first end) c ≡ outcomeIn (planCaseFrom p first c (end - first))
   unfolding windowOf

@@ -2,48 +2,25 @@
 use Prim.Native.Nat.{ℕ, zero, suc, _+_}
 use native.Mathlib.Nat.{add-zero}
 use native.Mathlib.Omega.{arith}
-use mathlib.Core.Path.{_≡_, refl, sym, ap, _∙_}
-use mathlib.Core.Bool.{Bool, true, false, not, _&&_, _||_, cond}
+use mathlib.Core.Path.{_≡_, refl, _∙_}
+use mathlib.Core.Bool.{Bool, true, false, _||_, cond}
 use lib.Dec.{leb}
 use lib.Ieee.{Float, le}
 use Rattle.float64.specs.Arithmetic.{_⊕_}
-use Rattle.fault_circuit.specs.declared.circuit.FaultCircuit.{FaultCircuit}
 use Rattle.fault_current.specs.Current.{currentOf}
-use Rattle.fault_plan.specs.declared.variables.FaultVariables.{FaultVariables}
 use Rattle.fault_plan.specs.declared.plan.FaultPlan.{FaultPlan}
-use Rattle.fault_plan.specs.Fault.{Setting, activeAt, clearsAt, dissipated, body, whileFaulted, afterClearing, beforeInception}
-use Rattle.fault_plan.specs.Plans.{planSetting, planStep}
+use Rattle.fault_plan.specs.Fault.{dissipated, whileFaulted, afterClearing, beforeInception}
+use Rattle.fault_plan.specs.Plans.{planSetting}
 use Rattle.run_start.specs.Start.{timeAt}
 use Rattle.fault_window.specs.Window.{activeIn, clearsIn}
 use Rattle.fault_sums.specs.declared.steps.Sums.{Sums}
-use Rattle.fault_sums.specs.Sums.{sumStep, sumsFrom, sumsOf}
+use Rattle.fault_sums.specs.Sums.{sumStep, sumsFrom}
 use Rattle.case_steps.specs.declared.open_case.OpenCase.{OpenCase}
-use Rattle.case_steps.specs.OpenCases.{outcomeIn, countsAt, clearingAfter, stepped}
+use Rattle.case_steps.specs.OpenCases.{outcomeIn}
 use Rattle.case_steps.specs.Plans.{planShows, planCaseStep, planCaseFrom}
+use Rattle.case_detection.proofs.Looks.{uncounted, lasts, waits, ended}
 use Rattle.case_ends.specs.Ends.{sumsIn}
 use Rattle.fault_window.proofs.Found.{None}
-
--- ---- a step of the variables
-
-module _ (z : Setting) (n : ℕ) (v : FaultVariables) where
-  abbrev t : Float
-  t = timeAt (z .dt) n
-
-  lasts : v .«fault_cleared» ≡ false → activeAt z t v ≡ true → body z n v ≡ whileFaulted z t v
-  unfolding body
-  lasts c a = rw (c, a)
-
-  waits : v .«fault_cleared» ≡ false → activeAt z t v ≡ false → body z n v ≡ beforeInception z t v
-  unfolding body
-  waits c a = rw (c, a)
-
-  no-more : (b : Bool) → (b && not true) ≡ false
-  no-more true = refl
-  no-more false = refl
-
-  over : v .«fault_cleared» ≡ true → body z n v ≡ afterClearing z t v
-  unfolding body
-  over c = rw (c, no-more (activeAt z t v))
 
 -- ---- a step of a case
 
@@ -60,20 +37,14 @@ module _ (p : FaultPlan) where
   abbrev pub heat : Float → Float
   heat = dissipated (p .constants .«dt_ms») (p .constants .circuit .«r_fault_ohm» ⊕ p .constants .circuit .«r_total_ohm»)
 
-  -- a step that does not count changes nothing of what is detected
-  uncounted : (d b shows : Bool) → (d || ((b && not true) && shows)) ≡ d
-  uncounted true b shows = refl
-  uncounted false true shows = refl
-  uncounted false false shows = refl
-
   -- cleared: nothing of the outcome changes
   settled-step : (step : ℕ) (c : OpenCase) → c .variables .«fault_cleared» ≡ true
       → (outcomeIn (planCaseStep p step c) ≡ outcomeIn c) × (planCaseStep p step c .variables .«fault_cleared» ≡ true)
-  unfolding planCaseStep planStep afterClearing
+  unfolding planCaseStep afterClearing
   settled-step step c e =
       let v = c .variables in
       let after = afterClearing (planSetting p) (timeAt (p .constants .«dt_ms») step) v in (
-        rw (over (planSetting p) step v e, e)
+        rw (ended p step v e, e)
             (λ i.
             record {
               cleared = true;
@@ -82,7 +53,7 @@ module _ (p : FaultPlan) where
               «peak_fault_ka» = v .«peak_fault_ka»;
               detected = uncounted (c .detected) (leb 1 step) (planShows p c after) i;
             }),
-        rw (over (planSetting p) step v e),
+        rw (ended p step v e),
       )
 
   pub settled : (n first : ℕ) (c : OpenCase) → c .variables .«fault_cleared» ≡ true → outcomeIn (planCaseFrom p first c n) ≡ outcomeIn c
@@ -103,10 +74,10 @@ module _ (p : FaultPlan) where
   no-activity false x e = e
 
   wait-step : (step : ℕ) (c : OpenCase) → c .variables .«fault_cleared» ≡ false → active (c .variables .«fault_active») step ≡ false → Same c (planCaseStep p step c)
-  unfolding planCaseStep planStep beforeInception
+  unfolding planCaseStep beforeInception
   wait-step step c e a =
       let v = c .variables in
-      rw (waits (planSetting p) step v e a)
+      rw (waits p step v e a)
       (record { cleared = refl; active-is = no-activity (v .«fault_active») (le (p .constants .circuit .«inception_time_ms») (timeAt (p .constants .«dt_ms») step)) a; sums = rw e })
 
   pub waiting : (m first : ℕ) (c : OpenCase) → c .variables .«fault_cleared» ≡ false → None (active (c .variables .«fault_active»)) first m → Same c (planCaseFrom p first c m)
@@ -125,15 +96,15 @@ module _ (p : FaultPlan) where
     pub current-is : d .«clearing_current_ka» ≡ cond cleared (s .«current_ka») (c .«clearing_current_ka»)
 
   stays-active : (step : ℕ) (c : OpenCase) → c .variables .«fault_cleared» ≡ false → active (c .variables .«fault_active») step ≡ true → planCaseStep p step c .variables .«fault_active» ≡ true
-  unfolding planCaseStep planStep whileFaulted
-  stays-active step c e a = rw (lasts (planSetting p) step (c .variables) e a)
+  unfolding planCaseStep whileFaulted
+  stays-active step c e a = rw (lasts p step (c .variables) e a)
 
   pub last-step : (step : ℕ) (c : OpenCase) (s : Sums) → c .variables .«fault_cleared» ≡ false → active (c .variables .«fault_active») step ≡ true
       → c .variables .«peak_fault_ka» ≡ s .«peak_ka» → c .variables .«energy_mj» ≡ s .«energy_mj»
       → Summed c (planCaseStep p step c) (sumStep heat (current step) s) (clears step)
-  unfolding planCaseStep planStep whileFaulted
+  unfolding planCaseStep whileFaulted
   last-step step c s e a is-peak is-energy =
-      rw (lasts (planSetting p) step (c .variables) e a)
+      rw (lasts p step (c .variables) e a)
       (record { cleared-is = refl; peak-is = rw is-peak; energy-is = rw is-energy; current-is = rw e })
 
   -- steps of which none clears

@@ -1,22 +1,20 @@
 -- What a call takes for a case that it closes is what all steps of the case lead to. Assumes nothing.
-use Prim.Native.Nat.{ℕ, zero, suc, _+_, _-_, _*_, _/_, _%_, _≤_, _<_}
-use native.Mathlib.Nat.{mod-lt}
+use Prim.Native.Nat.{ℕ, zero, suc, _-_, _≤_}
 use native.Mathlib.Omega.{arith}
 use mathlib.Core.Path.{_≡_, refl, sym, ap, _∙_}
 use mathlib.Core.Bool.{Bool, true, false, not, _&&_, cond}
 use lib.Dec.{eqb, leb}
 use lib.ListN.{getD}
-use borrow.Author.Tests.{eq-eqb, eqb-true, leb-true, le-leb, lt-ltb}
+use borrow.Author.Tests.{eqb-true, leb-true, lt-ltb}
 use mathlib.Core.List.{List}
 use Rattle.lists.specs.Tables.{tab, blank, padded}
-use Rattle.lists.proofs.Counting.{by-test, contrary}
+use Rattle.lists.proofs.Counting.{by-test}
 use Rattle.lists.proofs.Scanning.{left, right}
 use Rattle.lists.proofs.Fills.{upto, upto-padded, tab-same, getD-tab}
 use Rattle.grid.specs.declared.parts.SweepOrder.{SweepOrder}
 use Rattle.grid.specs.declared.simulator.DcSwitchingSimulator.{DcSwitchingSimulator}
-use Rattle.timing.specs.Steps.{stepsOf, countedTo, timeStepMs}
+use Rattle.timing.specs.Steps.{stepsOf}
 use Rattle.timing.proofs.Claims.{step-claims}
-use Rattle.breaker_times.specs.Breakers.{fastestOf}
 use Rattle.rules.specs.Studies.{sweepRefusal}
 use Rattle.rule_claims.proofs.Claims.{accepted-claims}
 use Rattle.rule_claims.proofs.Sizes.{size-claims}
@@ -26,9 +24,8 @@ use Rattle.fault_circuit.specs.Circuit.{circuitAt}
 use Rattle.fault_plan.specs.declared.plan.FaultPlan.{FaultPlan}
 use Rattle.fault_plan.specs.Fault.{beforeLoop}
 use Rattle.fault_plan.specs.Plans.{constantsOf, planOf}
-use Rattle.fault_window.specs.Window.{windowOf}
 use Rattle.fault_cases.specs.declared.cases.CasePlace.{CasePlace}
-use Rattle.fault_cases.specs.Cases.{casesOf, placeOf, faultType, faultIn, faultOf}
+use Rattle.fault_cases.specs.Cases.{placeOf, faultType, faultIn, faultOf}
 use Rattle.case_reasons.specs.declared.reasons.CaseOutcome.{CaseOutcome}
 use Rattle.case_steps.specs.declared.open_case.OpenCase.{OpenCase}
 use Rattle.case_steps.specs.OpenCases.{startCase, outcomeIn, caseFrom}
