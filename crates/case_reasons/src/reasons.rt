@@ -52,7 +52,8 @@ pub fn reasons_for(g: DcSwitchingSimulator, cable_number: u64, outcome: CaseOutc
 }
 
 fn weight(applies: bool, reason: u64) -> u64
-    ensures { λ r. ⌜ (r ≡ cond applies reason 0) × (r ≤ reason) ⌝ }
+    ensures answer { λ r. ⌜ r ≡ cond applies reason 0 ⌝ }
+    ensures most { λ r. ⌜ r ≤ reason ⌝ }
 {
     if applies { reason } else { 0 }
 }

@@ -23,7 +23,8 @@ pub fn put_row(
     outcome: CaseOutcome,
     loss_mw: f64,
 ) -> usize
-    ensures { λ r. ⌜ (r ≡ cond (writesRow reasons at (length (now (rows .entry)))) 1 0) × (now (rows .exit) ≡ sets (now (rows .entry)) at (cond (writesRow reasons at (length (now (rows .entry)))) (numbersOf place reasons outcome «loss_mw») [])) ⌝ }
+    ensures answer { λ r. ⌜ r ≡ cond (writesRow reasons at (length (now (rows .entry)))) 1 0 ⌝ }
+    ensures memory { λ r. ⌜ now (rows .exit) ≡ sets (now (rows .entry)) at (cond (writesRow reasons at (length (now (rows .entry)))) (numbersOf place reasons outcome «loss_mw») []) ⌝ }
 {
     if writes_row(reasons, at, rows.len()) {
         let row = row_numbers(place, reasons, outcome, loss_mw);

@@ -27,7 +27,8 @@ pub fn detect_fault(
     state: DcTransientState,
     prev: DcTransientState,
 ) -> DetectionAnswer
-    ensures { λ r. ⌜ (numberOf (r .verdict) ≡ detectionRefusal g) × (r .detected ≡ detection g state prev) ⌝ }
+    ensures refusal { λ r. ⌜ numberOf (r .verdict) ≡ detectionRefusal g ⌝ }
+    ensures answer { λ r. ⌜ r .detected ≡ detection g state prev ⌝ }
 {
     let verdict = check_detection(g);
     if number(verdict) == 0 {

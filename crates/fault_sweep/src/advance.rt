@@ -23,7 +23,8 @@ impl Sweep {
     // Makes at most `allowance` steps, and writes the rows of the cases that they close. A case that stays open has its steps made one by
     // one; of one that is closed only what its row is read from is worked out.
     pub fn advance(self, allowance: u64, rows: &mut [u64]) -> AdvancedSweep
-        ensures { λ r. ⌜ (r ≡ advancedSweep self allowance (now (rows .entry))) × (now (rows .exit) ≡ memoryOf sweepStepper self allowance (now (rows .entry))) ⌝ }
+        ensures answer { λ r. ⌜ r ≡ advancedSweep self allowance (now (rows .entry)) ⌝ }
+        ensures memory { λ r. ⌜ now (rows .exit) ≡ memoryOf sweepStepper self allowance (now (rows .entry)) ⌝ }
     {
         if is_broken(self) {
             return AdvancedSweep {

@@ -2,11 +2,12 @@
 // the divisions of a term are made several at once.
 ghost use mathlib.Core.Path.{_≡_};
 ghost use mathlib.Core.Bool.{cond};
+ghost use Prim.Native.Nat.{_≤_};
 ghost use lib.Ieee.{nan, lt, neg};
 ghost use Rattle.lists.specs.Tables.{tab, over};
 ghost use Rattle.float64.specs.Constants.{nought, one, k700, k1024};
 ghost use Rattle.float64.specs.Arithmetic.{_⊕_, _⊗_, _⊘_, of};
-ghost use Rattle.elementary.specs.Exponential.{terms, squared, E};
+ghost use Rattle.elementary.specs.Exponential.{term, terms, squared, E};
 use crate::squares::square_lanes;
 
 // f64::exp of each lane, whatever out held.
@@ -32,24 +33,40 @@ fn divide_by_1024(y: &mut [f64; 16], t: &[f64; 16])
     }
 }
 
-// The eighteen terms, k = 18 first. The divisor is made a double once for all lanes.
+// The eighteen terms, k = 18 first.
 fn add_terms(p: &mut [f64; 16], y: &[f64; 16])
     ensures { λ _. ⌜ now (p .exit) ≡ over 16 (λ j. terms 18 (of (now (y .entry)) j) (of (now (p .entry)) j)) nan (now (p .entry)) ⌝ }
 {
     let mut k: u64 = 18;
     while 0 < k {
-        add_term(p, y, k as f64);
+        add_term(p, y, k);
         k -= 1;
     }
 }
 
-// p becomes 1 + (y * p) / k.
-fn add_term(p: &mut [f64; 16], y: &[f64; 16], k: f64)
-    ensures { λ _. ⌜ now (p .exit) ≡ over 16 (λ j. one ⊕ of (now (y .entry)) j ⊗ of (now (p .entry)) j ⊘ k) nan (now (p .entry)) ⌝ }
+// p becomes 1 + (y * p) / k. The powers of two are written out: a quotient by such a constant is compiled to a product, which is the same number
+// and takes less time.
+fn add_term(p: &mut [f64; 16], y: &[f64; 16], k: u64)
+    requires { ⌜ k ≤ 18 ⌝ }
+    ensures { λ _. ⌜ now (p .exit) ≡ over 16 (λ j. term k (of (now (y .entry)) j) (of (now (p .entry)) j)) nan (now (p .entry)) ⌝ }
+{
+    match k {
+        1 => add_quotients(p, y, 1.0),
+        2 => add_quotients(p, y, 2.0),
+        4 => add_quotients(p, y, 4.0),
+        8 => add_quotients(p, y, 8.0),
+        16 => add_quotients(p, y, 16.0),
+        _ => add_quotients(p, y, k as f64),
+    }
+}
+
+// p becomes 1 + (y * p) / d.
+fn add_quotients(p: &mut [f64; 16], y: &[f64; 16], d: f64)
+    ensures { λ _. ⌜ now (p .exit) ≡ over 16 (λ j. one ⊕ of (now (y .entry)) j ⊗ of (now (p .entry)) j ⊘ d) nan (now (p .entry)) ⌝ }
 {
     let mut j: usize = 0;
     while j < 16 {
-        p[j] = 1.0 + (y[j] * p[j]) / k;
+        p[j] = 1.0 + (y[j] * p[j]) / d;
         j += 1;
     }
 }

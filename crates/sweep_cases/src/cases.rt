@@ -135,7 +135,8 @@ pub fn put_case(
     k: u64,
     outcome: CaseOutcome,
 ) -> usize
-    ensures { λ r. ⌜ (r ≡ cond (roomBehind out (now (rows .entry))) (length (toList (rowFor g order flow k outcome))) 0) × (now (rows .exit) ≡ cond (roomBehind out (now (rows .entry))) (sets (now (rows .entry)) (8 * out) (joined (toList (rowFor g order flow k outcome)))) (now (rows .entry))) ⌝ }
+    ensures answer { λ r. ⌜ r ≡ cond (roomBehind out (now (rows .entry))) (length (toList (rowFor g order flow k outcome))) 0 ⌝ }
+    ensures memory { λ r. ⌜ now (rows .exit) ≡ cond (roomBehind out (now (rows .entry))) (sets (now (rows .entry)) (8 * out) (joined (toList (rowFor g order flow k outcome)))) (now (rows .entry)) ⌝ }
 {
     if rows.len() / ROW_LENGTH <= out {
         return 0;

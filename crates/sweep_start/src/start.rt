@@ -21,7 +21,8 @@ pub struct StartedSweep {
 
 // Solves the flow once the rules 1 to 9 let the grid and the order pass. Beside a refusal stands a sweep of zeros, which every advance refuses.
 pub fn start_sweep(g: DcSwitchingSimulator, order: SweepOrder) -> StartedSweep
-    ensures { λ r. ⌜ (numberOf (r .verdict) ≡ sweepRefused g order) × (r .sweep ≡ startedSweep g order) ⌝ }
+    ensures refusal { λ r. ⌜ numberOf (r .verdict) ≡ sweepRefused g order ⌝ }
+    ensures answer { λ r. ⌜ r .sweep ≡ startedSweep g order ⌝ }
 {
     let verdict = check_sweep(g, order);
     if number(verdict) == 0 {

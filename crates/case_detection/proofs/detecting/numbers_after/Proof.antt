@@ -4,9 +4,6 @@ use borrow.Author.Needs.{needs}
 use Rattle.case_detection.proofs.detecting.numbers_after.Statement.{statement}
 use Rattle.case_detection.proofs.detecting.numbers_after.Tie as tie
 
-moved-numbers-requires : tie.Need-moved-numbers-requires
-moved-numbers-requires c κs = search needs
-
 returns : tie.Need-returns
 returns c = rw (c .before .before .if1 .taken) (c .moved-numbers .ensures)
 
@@ -14,4 +11,4 @@ returns-2 : tie.Need-returns-2
 returns-2 c = rw (c .if1 .left)
 
 pub numbers-after-spec : {M : Type 1} → statement M
-numbers-after-spec = tie.close (tie.spec moved-numbers-requires returns returns-2)
+numbers-after-spec = tie.close (tie.spec (λ c κs. search needs) returns returns-2)

@@ -61,15 +61,6 @@ one-left t = omega (arith, t .loop-test .taken)
 loop-holds : tie.Need-loop-holds Inv-loop μ-loop
 loop-holds c = refl
 
-step-time-ms-requires : tie.Need-step-time-ms-requires Inv-loop μ-loop
-step-time-ms-requires c κs = search needs
-
-numbers-after-requires : tie.Need-numbers-after-requires Inv-loop μ-loop
-numbers-after-requires c κs = search needs
-
-shows-fault-requires : tie.Need-shows-fault-requires Inv-loop μ-loop
-shows-fault-requires c κs = search needs
-
 returns : tie.Need-returns Inv-loop μ-loop
 returns c =
     let s = c .before in
@@ -124,9 +115,6 @@ returns-2 c =
 add-step : tie.Need-add-step Inv-loop μ-loop
 add-step c = let t = turn (c .before .before) in omega (arith, t .loop-test .taken, start (t .before) .fits .end)
 
-loop-less : tie.Need-loop-less Inv-loop μ-loop
-loop-less c = search needs
-
 loop-again : tie.Need-loop-again Inv-loop μ-loop
 loop-again c =
     let s = c .before .before in
@@ -164,15 +152,5 @@ pub shows-before-clearing-spec : {M : Type 1} → statement M
 shows-before-clearing-spec =
     tie.close
     (tie.spec
-    Inv-loop
-    μ-loop
-    loop-holds
-    step-time-ms-requires
-    numbers-after-requires
-    shows-fault-requires
-    returns
-    returns-2
-    add-step
-    loop-less
-    loop-again
-    returns-3)
+    Inv-loop μ-loop loop-holds (λ c κs. search needs) (λ c κs. search needs) (λ c κs. search needs) returns returns-2 add-step (λ c. search needs)
+    loop-again returns-3)

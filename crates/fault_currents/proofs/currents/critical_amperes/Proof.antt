@@ -8,12 +8,6 @@ use Rattle.fault_currents.proofs.Composed.{lanes-read}
 use Rattle.fault_currents.proofs.currents.critical_amperes.Statement.{statement}
 use Rattle.fault_currents.proofs.currents.critical_amperes.Tie as tie
 
-exp-along-requires : tie.Need-exp-along-requires
-exp-along-requires c κs = search needs
-
-multiply-requires : tie.Need-multiply-requires
-multiply-requires c κs = search needs
-
 returns : tie.Need-returns
 returns c =
     let p = c .before .before .before in
@@ -21,4 +15,4 @@ returns c =
     c .multiply .ensures ∙ lanes-read 16 (λ j x. a .gain ⊗ of (a .t .now) j ⊗ x) (λ j. E (neg (a .alpha) ⊗ of (a .t .now) j)) (a .i .now) (p .exp-along .ensures)
 
 pub critical-amperes-spec : {M : Type 1} → statement M
-critical-amperes-spec = tie.close (tie.spec exp-along-requires multiply-requires returns)
+critical-amperes-spec = tie.close (tie.spec (λ c κs. search needs) (λ c κs. search needs) returns)

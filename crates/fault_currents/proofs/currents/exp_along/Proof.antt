@@ -7,12 +7,6 @@ use Rattle.fault_currents.proofs.Composed.{lanes-through}
 use Rattle.fault_currents.proofs.currents.exp_along.Statement.{statement}
 use Rattle.fault_currents.proofs.currents.exp_along.Tie as tie
 
-scale-requires : tie.Need-scale-requires
-scale-requires c κs = search needs
-
-exp-lanes-requires : tie.Need-exp-lanes-requires
-exp-lanes-requires c κs = search needs
-
 returns : tie.Need-returns
 unfolding blank
 returns c =
@@ -21,4 +15,4 @@ returns c =
     lanes-through 16 E (λ j. a .a ⊗ of (a .t .now) j) (s .scale .ensures) (c .exp-lanes .ensures)
 
 pub exp-along-spec : {M : Type 1} → statement M
-exp-along-spec = tie.close (tie.spec scale-requires exp-lanes-requires returns)
+exp-along-spec = tie.close (tie.spec (λ c κs. search needs) (λ c κs. search needs) returns)

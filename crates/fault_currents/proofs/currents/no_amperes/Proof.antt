@@ -18,18 +18,6 @@ abbrev μ-loop : tie.MeasureT-loop
 loop-holds : tie.Need-loop-holds Inv-loop μ-loop
 loop-holds c = (omega arith, upto-none _ _)
 
-mul-i : tie.Need-mul-i Inv-loop μ-loop
-mul-i c = search needs
-
-element-write-i : tie.Need-element-write-i Inv-loop μ-loop
-element-write-i c = search needs
-
-add-j : tie.Need-add-j Inv-loop μ-loop
-add-j c = search needs
-
-loop-less : tie.Need-loop-less Inv-loop μ-loop
-loop-less c = search needs
-
 loop-again : tie.Need-loop-again Inv-loop μ-loop
 loop-again c = (omega arith, upto-more _ _ _ (c .before .loop .inv .1) refl)
 
@@ -39,6 +27,4 @@ returns c =
     lanes-left 16 (λ n. nought) (a .i .now) (c .before .loop .inv .0) (c .loop-test .left) (c .before .loop .inv .1)
 
 pub no-amperes-spec : {M : Type 1} → statement M
-no-amperes-spec =
-    tie.close
-    (tie.spec Inv-loop μ-loop loop-holds mul-i element-write-i add-j loop-less loop-again returns)
+no-amperes-spec = tie.close (tie.spec Inv-loop μ-loop loop-holds (λ c. search needs) (λ c. search needs) (λ c. search needs) (λ c. search needs) loop-again returns)

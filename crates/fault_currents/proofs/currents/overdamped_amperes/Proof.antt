@@ -6,15 +6,6 @@ use Rattle.fault_currents.proofs.Composed.{lanes-joined}
 use Rattle.fault_currents.proofs.currents.overdamped_amperes.Statement.{statement}
 use Rattle.fault_currents.proofs.currents.overdamped_amperes.Tie as tie
 
-exp-along-requires : tie.Need-exp-along-requires
-exp-along-requires c κs = search needs
-
-exp-along-requires-2 : tie.Need-exp-along-requires-2
-exp-along-requires-2 c κs = search needs
-
-subtract-requires : tie.Need-subtract-requires
-subtract-requires c κs = search needs
-
 returns : tie.Need-returns
 returns c =
     let q = c .before .before .before .before in
@@ -23,5 +14,4 @@ returns c =
     lanes-joined 16 (λ x y. a .gain ⊗ (x ⊖ y)) (λ j. E (a .s1 ⊗ of (a .t .now) j)) (λ j. E (a .s2 ⊗ of (a .t .now) j)) (a .i .now) (p .exp-along .ensures) (q .exp-along2 .ensures) (c .subtract .ensures)
 
 pub overdamped-amperes-spec : {M : Type 1} → statement M
-overdamped-amperes-spec =
-    tie.close (tie.spec exp-along-requires exp-along-requires-2 subtract-requires returns)
+overdamped-amperes-spec = tie.close (tie.spec (λ c κs. search needs) (λ c κs. search needs) (λ c κs. search needs) returns)

@@ -7,12 +7,6 @@ use Rattle.fault_currents.proofs.Composed.{lanes-through}
 use Rattle.fault_currents.proofs.currents.sin_along.Statement.{statement}
 use Rattle.fault_currents.proofs.currents.sin_along.Tie as tie
 
-scale-requires : tie.Need-scale-requires
-scale-requires c κs = search needs
-
-sin-lanes-requires : tie.Need-sin-lanes-requires
-sin-lanes-requires c κs = search needs
-
 returns : tie.Need-returns
 unfolding blank
 returns c =
@@ -21,4 +15,4 @@ returns c =
     lanes-through 16 S (λ j. a .a ⊗ of (a .t .now) j) (s .scale .ensures) (c .sin-lanes .ensures)
 
 pub sin-along-spec : {M : Type 1} → statement M
-sin-along-spec = tie.close (tie.spec scale-requires sin-lanes-requires returns)
+sin-along-spec = tie.close (tie.spec (λ c κs. search needs) (λ c κs. search needs) returns)

@@ -8,15 +8,6 @@ use Rattle.fault_currents.proofs.Composed.{lanes-joined}
 use Rattle.fault_currents.proofs.currents.underdamped_amperes.Statement.{statement}
 use Rattle.fault_currents.proofs.currents.underdamped_amperes.Tie as tie
 
-exp-along-requires : tie.Need-exp-along-requires
-exp-along-requires c κs = search needs
-
-sin-along-requires : tie.Need-sin-along-requires
-sin-along-requires c κs = search needs
-
-multiply-requires : tie.Need-multiply-requires
-multiply-requires c κs = search needs
-
 returns : tie.Need-returns
 returns c =
     let q = c .before .before .before .before in
@@ -25,5 +16,4 @@ returns c =
     lanes-joined 16 (λ x y. a .gain ⊗ x ⊗ y) (λ j. E (neg (a .alpha) ⊗ of (a .t .now) j)) (λ j. S (a .«omega-d» ⊗ of (a .t .now) j)) (a .i .now) (p .exp-along .ensures) (q .sin-along .ensures) (c .multiply .ensures)
 
 pub underdamped-amperes-spec : {M : Type 1} → statement M
-underdamped-amperes-spec =
-    tie.close (tie.spec exp-along-requires sin-along-requires multiply-requires returns)
+underdamped-amperes-spec = tie.close (tie.spec (λ c κs. search needs) (λ c κs. search needs) (λ c κs. search needs) returns)

@@ -9,30 +9,6 @@ use Rattle.lists.specs.Tables.{over}
 use Rattle.fault_currents.proofs.sites.amperes.Statement.{statement}
 use Rattle.fault_currents.proofs.sites.amperes.Tie as tie
 
-enum-known-response : tie.Need-enum-known-response
-enum-known-response c = search needs
-
-underdamped-amperes-requires : tie.Need-underdamped-amperes-requires
-underdamped-amperes-requires c κs = search needs
-
-enum-known-response-2 : tie.Need-enum-known-response-2
-enum-known-response-2 c = search needs
-
-overdamped-amperes-requires : tie.Need-overdamped-amperes-requires
-overdamped-amperes-requires c κs = search needs
-
-enum-known-response-3 : tie.Need-enum-known-response-3
-enum-known-response-3 c = search needs
-
-critical-amperes-requires : tie.Need-critical-amperes-requires
-critical-amperes-requires c κs = search needs
-
-enum-told : tie.Need-enum-told
-enum-told c = search needs
-
-no-amperes-requires : tie.Need-no-amperes-requires
-no-amperes-requires c κs = search needs
-
 returns : tie.Need-returns
 unfolding amperesBy
 returns c =
@@ -61,15 +37,5 @@ pub amperes-spec : {M : Type 1} → statement M
 amperes-spec =
     tie.close
     (tie.spec
-    enum-known-response
-    underdamped-amperes-requires
-    enum-known-response-2
-    overdamped-amperes-requires
-    enum-known-response-3
-    critical-amperes-requires
-    enum-told
-    no-amperes-requires
-    returns
-    returns-2
-    returns-3
-    returns-4)
+    (λ c. search needs) (λ c κs. search needs) (λ c. search needs) (λ c κs. search needs) (λ c. search needs) (λ c κs. search needs)
+    (λ c. search needs) (λ c κs. search needs) returns returns-2 returns-3 returns-4)

@@ -19,27 +19,6 @@ abbrev μ-loop : tie.MeasureT-loop
 loop-holds : tie.Need-loop-holds Inv-loop μ-loop
 loop-holds c = (omega arith, upto-none _ _)
 
-mul-max : tie.Need-mul-max Inv-loop μ-loop
-mul-max c = search needs
-
-element-copy-out-max : tie.Need-element-copy-out-max Inv-loop μ-loop
-element-copy-out-max c = search needs
-
-max-requires : tie.Need-max-requires Inv-loop μ-loop
-max-requires c κs = search needs
-
-mul-t : tie.Need-mul-t Inv-loop μ-loop
-mul-t c = search needs
-
-element-write-t : tie.Need-element-write-t Inv-loop μ-loop
-element-write-t c = search needs
-
-add-j : tie.Need-add-j Inv-loop μ-loop
-add-j c = search needs
-
-loop-less : tie.Need-loop-less Inv-loop μ-loop
-loop-less c = search needs
-
 loop-again : tie.Need-loop-again Inv-loop μ-loop
 loop-again c = (omega arith, upto-more _ _ _ (c .before .before .before .loop .inv .1) (rw (c .max .ensures)))
 
@@ -52,15 +31,5 @@ pub seconds-since-spec : {M : Type 1} → statement M
 seconds-since-spec =
     tie.close
     (tie.spec
-    Inv-loop
-    μ-loop
-    loop-holds
-    mul-max
-    element-copy-out-max
-    max-requires
-    mul-t
-    element-write-t
-    add-j
-    loop-less
-    loop-again
-    returns)
+    Inv-loop μ-loop loop-holds (λ c. search needs) (λ c. search needs) (λ c κs. search needs) (λ c. search needs) (λ c. search needs)
+    (λ c. search needs) (λ c. search needs) loop-again returns)

@@ -6,15 +6,6 @@ use Rattle.fault_currents.proofs.Composed.{site-composed}
 use Rattle.fault_currents.proofs.sites.site_currents_ka.Statement.{statement}
 use Rattle.fault_currents.proofs.sites.site_currents_ka.Tie as tie
 
-seconds-since-requires : tie.Need-seconds-since-requires
-seconds-since-requires c κs = search needs
-
-amperes-requires : tie.Need-amperes-requires
-amperes-requires c κs = search needs
-
-to-kiloamperes-requires : tie.Need-to-kiloamperes-requires
-to-kiloamperes-requires c κs = search needs
-
 returns : tie.Need-returns
 unfolding blank
 returns c =
@@ -24,5 +15,4 @@ returns c =
     site-composed 16 (a .circuit) (a .«t-ms» .now) (s .seconds-since .ensures) (i .amperes .ensures) (c .to-kiloamperes .ensures)
 
 pub site-currents-ka-spec : {M : Type 1} → statement M
-site-currents-ka-spec =
-    tie.close (tie.spec seconds-since-requires amperes-requires to-kiloamperes-requires returns)
+site-currents-ka-spec = tie.close (tie.spec (λ c κs. search needs) (λ c κs. search needs) (λ c κs. search needs) returns)

@@ -20,27 +20,6 @@ abbrev μ-loop : tie.MeasureT-loop
 loop-holds : tie.Need-loop-holds Inv-loop μ-loop
 loop-holds c = (omega arith, upto-none _ _)
 
-mul-abs : tie.Need-mul-abs Inv-loop μ-loop
-mul-abs c = search needs
-
-element-copy-out-abs : tie.Need-element-copy-out-abs Inv-loop μ-loop
-element-copy-out-abs c = search needs
-
-abs-requires : tie.Need-abs-requires Inv-loop μ-loop
-abs-requires c κs = search needs
-
-mul-i : tie.Need-mul-i Inv-loop μ-loop
-mul-i c = search needs
-
-element-write-i : tie.Need-element-write-i Inv-loop μ-loop
-element-write-i c = search needs
-
-add-j : tie.Need-add-j Inv-loop μ-loop
-add-j c = search needs
-
-loop-less : tie.Need-loop-less Inv-loop μ-loop
-loop-less c = search needs
-
 loop-again : tie.Need-loop-again Inv-loop μ-loop
 loop-again c =
     let l = c .before .before .before in
@@ -56,15 +35,5 @@ pub to-kiloamperes-spec : {M : Type 1} → statement M
 to-kiloamperes-spec =
     tie.close
     (tie.spec
-    Inv-loop
-    μ-loop
-    loop-holds
-    mul-abs
-    element-copy-out-abs
-    abs-requires
-    mul-i
-    element-write-i
-    add-j
-    loop-less
-    loop-again
-    returns)
+    Inv-loop μ-loop loop-holds (λ c. search needs) (λ c. search needs) (λ c κs. search needs) (λ c. search needs) (λ c. search needs)
+    (λ c. search needs) (λ c. search needs) loop-again returns)

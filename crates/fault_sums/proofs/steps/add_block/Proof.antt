@@ -6,15 +6,6 @@ use borrow.Author.Needs.{needs}
 use Rattle.fault_sums.proofs.steps.add_block.Statement.{statement}
 use Rattle.fault_sums.proofs.steps.add_block.Tie as tie
 
-typed-currents-requires : tie.Need-typed-currents-requires
-typed-currents-requires c κs = search needs
-
-heats-requires : tie.Need-heats-requires
-heats-requires c κs = search needs
-
-add-lanes-requires : tie.Need-add-lanes-requires
-add-lanes-requires c κs = search needs
-
 returns : tie.Need-returns
 returns c =
     let h = c .before .before .before in
@@ -24,4 +15,4 @@ returns c =
     c .add-lanes .ensures ∙ typed-lanes (dissipated (a .«dt-ms») (a .«r-ohm»)) (a .factor) (a .i .now) (a .n) (a .start) (s .pre) (t .typed-currents .ensures) (h .heats .ensures)
 
 pub add-block-spec : {M : Type 1} → statement M
-add-block-spec = tie.close (tie.spec typed-currents-requires heats-requires add-lanes-requires returns)
+add-block-spec = tie.close (tie.spec (λ c κs. search needs) (λ c κs. search needs) (λ c κs. search needs) returns)

@@ -18,27 +18,6 @@ abbrev μ-loop : tie.MeasureT-loop
 loop-holds : tie.Need-loop-holds Inv-loop μ-loop
 loop-holds c = let e : c .args .n - 0 ≡ c .args .n = omega arith in rw e
 
-mul-add-step : tie.Need-mul-add-step Inv-loop μ-loop
-mul-add-step c = search needs
-
-element-copy-out-add-step : tie.Need-element-copy-out-add-step Inv-loop μ-loop
-element-copy-out-add-step c = search needs
-
-mul-add-step-2 : tie.Need-mul-add-step-2 Inv-loop μ-loop
-mul-add-step-2 c = search needs
-
-element-copy-out-add-step-2 : tie.Need-element-copy-out-add-step-2 Inv-loop μ-loop
-element-copy-out-add-step-2 c = search needs
-
-add-step-requires : tie.Need-add-step-requires Inv-loop μ-loop
-add-step-requires c κs = search needs
-
-add-lane : tie.Need-add-lane Inv-loop μ-loop
-add-lane c = search needs
-
-loop-less : tie.Need-loop-less Inv-loop μ-loop
-loop-less c = search needs
-
 loop-again : tie.Need-loop-again Inv-loop μ-loop
 loop-again c =
     let l = c .before .before .before .before in
@@ -52,4 +31,8 @@ returns c =
     sym (lanes-done (of (a .i .now)) (of (a .heat .now)) (l .loop .lane) (a .n) (l .loop .s) (c .loop-test .left)) ∙ l .loop .inv
 
 pub add-lanes-spec : {M : Type 1} → statement M
-add-lanes-spec = tie.close (tie.spec Inv-loop μ-loop loop-holds mul-add-step element-copy-out-add-step mul-add-step-2 element-copy-out-add-step-2 add-step-requires add-lane loop-less loop-again returns)
+add-lanes-spec =
+    tie.close
+    (tie.spec
+    Inv-loop μ-loop loop-holds (λ c. search needs) (λ c. search needs) (λ c. search needs) (λ c. search needs) (λ c κs. search needs)
+    (λ c. search needs) (λ c. search needs) loop-again returns)

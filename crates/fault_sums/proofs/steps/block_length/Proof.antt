@@ -5,9 +5,6 @@ use borrow.Author.Needs.{needs}
 use Rattle.fault_sums.proofs.steps.block_length.Statement.{statement}
 use Rattle.fault_sums.proofs.steps.block_length.Tie as tie
 
-sub-left : tie.Need-sub-left
-sub-left c = search needs
-
 returns : tie.Need-returns
 returns c = omega (arith, c .if1 .taken)
 
@@ -15,4 +12,4 @@ returns-2 : tie.Need-returns-2
 returns-2 c = omega (arith, c .if1 .left)
 
 pub block-length-spec : {M : Type 1} → statement M
-block-length-spec = tie.close (tie.spec sub-left returns returns-2)
+block-length-spec = tie.close (tie.spec (λ c. search needs) returns returns-2)

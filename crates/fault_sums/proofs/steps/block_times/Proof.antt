@@ -21,24 +21,6 @@ loop-holds : tie.Need-loop-holds Inv-loop μ-loop
 unfolding blank
 loop-holds c = (omega arith, upto-none _ _)
 
-add-step-time-ms : tie.Need-add-step-time-ms Inv-loop μ-loop
-add-step-time-ms c = search needs
-
-step-time-ms-requires : tie.Need-step-time-ms-requires Inv-loop μ-loop
-step-time-ms-requires c κs = search needs
-
-mul-t-ms : tie.Need-mul-t-ms Inv-loop μ-loop
-mul-t-ms c = search needs
-
-array-write-t-ms : tie.Need-array-write-t-ms Inv-loop μ-loop
-array-write-t-ms c = search needs
-
-add-j : tie.Need-add-j Inv-loop μ-loop
-add-j c = search needs
-
-loop-less : tie.Need-loop-less Inv-loop μ-loop
-loop-less c = search needs
-
 loop-again : tie.Need-loop-again Inv-loop μ-loop
 loop-again c = (omega arith, upto-more _ _ _ (c .before .before .loop .inv .1) (c .step-time-ms .ensures))
 
@@ -51,4 +33,8 @@ returns c =
     ∙ upto-padded (a .n) 16 _ nought (s .pre .0)
 
 pub block-times-spec : {M : Type 1} → statement M
-block-times-spec = tie.close (tie.spec Inv-loop μ-loop loop-holds add-step-time-ms step-time-ms-requires mul-t-ms array-write-t-ms add-j loop-less loop-again returns)
+block-times-spec =
+    tie.close
+    (tie.spec
+    Inv-loop μ-loop loop-holds (λ c. search needs) (λ c κs. search needs) (λ c. search needs) (λ c. search needs) (λ c. search needs)
+    (λ c. search needs) loop-again returns)

@@ -23,24 +23,6 @@ loop-holds : tie.Need-loop-holds Inv-loop μ-loop
 unfolding blank
 loop-holds c = (omega arith, upto-none _ _)
 
-mul-i-a : tie.Need-mul-i-a Inv-loop μ-loop
-mul-i-a c = search needs
-
-element-copy-out-i-a : tie.Need-element-copy-out-i-a Inv-loop μ-loop
-element-copy-out-i-a c = search needs
-
-mul-heat : tie.Need-mul-heat Inv-loop μ-loop
-mul-heat c = search needs
-
-array-write-heat : tie.Need-array-write-heat Inv-loop μ-loop
-array-write-heat c = search needs
-
-add-j : tie.Need-add-j Inv-loop μ-loop
-add-j c = search needs
-
-loop-less : tie.Need-loop-less Inv-loop μ-loop
-loop-less c = search needs
-
 loop-again : tie.Need-loop-again Inv-loop μ-loop
 loop-again c = (omega arith, upto-more _ _ _ (c .before .before .loop .inv .1) refl)
 
@@ -52,4 +34,8 @@ returns c =
     lanes-of-blank 16 f nought (lanes-left 16 f (blank 16 nought) (l .loop .inv .0) (c .loop-test .left) (l .loop .inv .1))
 
 pub heats-spec : {M : Type 1} → statement M
-heats-spec = tie.close (tie.spec Inv-loop μ-loop loop-holds mul-i-a element-copy-out-i-a mul-heat array-write-heat add-j loop-less loop-again returns)
+heats-spec =
+    tie.close
+    (tie.spec
+    Inv-loop μ-loop loop-holds (λ c. search needs) (λ c. search needs) (λ c. search needs) (λ c. search needs) (λ c. search needs) (λ c. search needs)
+    loop-again returns)

@@ -22,24 +22,6 @@ loop-holds : tie.Need-loop-holds Inv-loop μ-loop
 unfolding blank
 loop-holds c = (omega arith, upto-none _ _)
 
-mul-typed : tie.Need-mul-typed Inv-loop μ-loop
-mul-typed c = search needs
-
-element-copy-out-typed : tie.Need-element-copy-out-typed Inv-loop μ-loop
-element-copy-out-typed c = search needs
-
-mul-typed-2 : tie.Need-mul-typed-2 Inv-loop μ-loop
-mul-typed-2 c = search needs
-
-array-write-typed : tie.Need-array-write-typed Inv-loop μ-loop
-array-write-typed c = search needs
-
-add-j : tie.Need-add-j Inv-loop μ-loop
-add-j c = search needs
-
-loop-less : tie.Need-loop-less Inv-loop μ-loop
-loop-less c = search needs
-
 loop-again : tie.Need-loop-again Inv-loop μ-loop
 loop-again c = (omega arith, upto-more _ _ _ (c .before .before .loop .inv .1) refl)
 
@@ -51,4 +33,8 @@ returns c =
     lanes-of-blank 16 f nought (lanes-left 16 f (blank 16 nought) (l .loop .inv .0) (c .loop-test .left) (l .loop .inv .1))
 
 pub typed-currents-spec : {M : Type 1} → statement M
-typed-currents-spec = tie.close (tie.spec Inv-loop μ-loop loop-holds mul-typed element-copy-out-typed mul-typed-2 array-write-typed add-j loop-less loop-again returns)
+typed-currents-spec =
+    tie.close
+    (tie.spec
+    Inv-loop μ-loop loop-holds (λ c. search needs) (λ c. search needs) (λ c. search needs) (λ c. search needs) (λ c. search needs) (λ c. search needs)
+    loop-again returns)

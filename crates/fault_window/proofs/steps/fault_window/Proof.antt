@@ -4,15 +4,6 @@ use borrow.Author.Needs.{needs}
 use Rattle.fault_window.proofs.steps.fault_window.Statement.{statement}
 use Rattle.fault_window.proofs.steps.fault_window.Tie as tie
 
-first-active-requires : tie.Need-first-active-requires
-first-active-requires c κs = search needs
-
-first-clearing-requires : tie.Need-first-clearing-requires
-first-clearing-requires c κs = search needs
-
-add-to : tie.Need-add-to
-add-to c = search needs
-
 returns : tie.Need-returns
 returns c =
     let k = c .before in
@@ -28,4 +19,4 @@ returns-2 c =
     lasting (a .«dt-ms») (a .«inception-ms») (a .«clear-ms») (a .active) (a .first) (a .end) (i .first-active .ensures) (k .first-clearing .ensures) (c .if1 .left)
 
 pub fault-window-spec : {M : Type 1} → statement M
-fault-window-spec = tie.close (tie.spec first-active-requires first-clearing-requires add-to returns returns-2)
+fault-window-spec = tie.close (tie.spec (λ c κs. search needs) (λ c κs. search needs) (λ c. search needs) returns returns-2)

@@ -17,21 +17,12 @@ abbrev μ-loop : tie.MeasureT-loop
 loop-holds : tie.Need-loop-holds Inv-loop μ-loop
 loop-holds c = refl
 
-is-cleared-requires : tie.Need-is-cleared-requires Inv-loop μ-loop
-is-cleared-requires c κs = search needs
-
 returns : tie.Need-returns Inv-loop μ-loop
 returns c =
     let i = c .before in
     let l = i .before .before in
     let a = l .before .args in
     found (clearsIn (a .«dt-ms») (a .«inception-ms») (a .«clear-ms»)) (l .loop .step) (a .end) (i .before .loop-test .taken) (sym (i .is-cleared .ensures) ∙ c .if1 .taken) ∙ l .loop .inv
-
-add-step : tie.Need-add-step Inv-loop μ-loop
-add-step c = search needs
-
-loop-less : tie.Need-loop-less Inv-loop μ-loop
-loop-less c = search needs
 
 loop-again : tie.Need-loop-again Inv-loop μ-loop
 loop-again c =
@@ -47,4 +38,4 @@ returns-2 c =
     none (clearsIn (a .«dt-ms») (a .«inception-ms») (a .«clear-ms»)) (l .loop .step) (a .end) (c .loop-test .left) ∙ l .loop .inv
 
 pub first-clearing-spec : {M : Type 1} → statement M
-first-clearing-spec = tie.close (tie.spec Inv-loop μ-loop loop-holds is-cleared-requires returns add-step loop-less loop-again returns-2)
+first-clearing-spec = tie.close (tie.spec Inv-loop μ-loop loop-holds (λ c κs. search needs) returns (λ c. search needs) (λ c. search needs) loop-again returns-2)

@@ -1,73 +1,39 @@
--- `add_term` meets its contract. Assumes nothing.
-use mathlib.Core.Path.{_≡_, refl}
-use Prim.Native.Nat.{_≤_, _-_}
+-- `add_term` meets its contract: a power of two that is written out is the double of k. Assumes nothing.
+use Prim.Native.Nat.{_≤_, _^_}
 use native.Mathlib.Omega.{arith}
 use borrow.Author.Needs.{needs}
-use Rattle.lists.proofs.Fills.{upto, upto-none}
-use Rattle.float64.specs.Arithmetic.{of, _⊕_, _⊗_, _⊘_}
-use Rattle.float64.specs.Constants.{one}
-use Rattle.lanes.proofs.Lanes.{lanes-left, lane-changed}
+use lib.Ieee.{inFloat, ofInt, ofBits}
+use lib.Dec.{le→leb}
 use Rattle.lanes.proofs.exponential.add_term.Statement.{statement}
 use Rattle.lanes.proofs.exponential.add_term.Tie as tie
 
-abbrev Inv-loop : tie.InvT-loop
-Inv-loop p₀ y k j₀ p j = (j ≤ 16) × (p ≡ upto j (λ n. one ⊕ of y n ⊗ of p₀ n ⊘ k) p₀)
+int-to-float-add-quotients : tie.Need-int-to-float-add-quotients
+unfolding inFloat
+int-to-float-add-quotients c = let h : c .before .before .before .args .k ≤ 2 ^ 53 = omega arith in le→leb _ _ h
 
-abbrev μ-loop : tie.MeasureT-loop
-μ-loop p₀ y k j₀ p j = 16 - j
+returns : tie.Need-returns
+unfolding ofInt ofBits
+returns c = rw (c .before .before .match .keys1) (c .add-quotients .ensures)
 
-loop-holds : tie.Need-loop-holds Inv-loop μ-loop
-loop-holds c = (omega arith, upto-none _ _)
+returns-2 : tie.Need-returns-2
+unfolding ofInt ofBits
+returns-2 c = rw (c .before .before .match .keys2) (c .add-quotients2 .ensures)
 
-mul-p : tie.Need-mul-p Inv-loop μ-loop
-mul-p c = search needs
+returns-3 : tie.Need-returns-3
+unfolding ofInt ofBits
+returns-3 c = rw (c .before .before .match .keys3) (c .add-quotients3 .ensures)
 
-element-copy-out-p : tie.Need-element-copy-out-p Inv-loop μ-loop
-element-copy-out-p c = search needs
+returns-4 : tie.Need-returns-4
+unfolding ofInt ofBits
+returns-4 c = rw (c .before .before .match .keys4) (c .add-quotients4 .ensures)
 
-mul-p-2 : tie.Need-mul-p-2 Inv-loop μ-loop
-mul-p-2 c = search needs
-
-element-copy-out-p-2 : tie.Need-element-copy-out-p-2 Inv-loop μ-loop
-element-copy-out-p-2 c = search needs
-
-mul-p-3 : tie.Need-mul-p-3 Inv-loop μ-loop
-mul-p-3 c = search needs
-
-element-write-p : tie.Need-element-write-p Inv-loop μ-loop
-element-write-p c = search needs
-
-add-j : tie.Need-add-j Inv-loop μ-loop
-add-j c = search needs
-
-loop-less : tie.Need-loop-less Inv-loop μ-loop
-loop-less c = search needs
-
-loop-again : tie.Need-loop-again Inv-loop μ-loop
-loop-again c =
-    let l = c .before .before .before in
-    let a = l .before .args in
-    (omega arith, lane-changed (λ n z. one ⊕ of (a .y .now) n ⊗ z ⊘ a .k) (a .p .now) (l .loop .j) (l .loop .inv .1) refl)
-
-returns : tie.Need-returns Inv-loop μ-loop
-returns c =
-    let a = c .before .before .args in
-    lanes-left 16 (λ n. one ⊕ of (a .y .now) n ⊗ of (a .p .now) n ⊘ a .k) (a .p .now) (c .before .loop .inv .0) (c .loop-test .left) (c .before .loop .inv .1)
+returns-5 : tie.Need-returns-5
+unfolding ofInt ofBits
+returns-5 c = rw (c .before .before .match .keys5) (c .add-quotients5 .ensures)
 
 pub add-term-spec : {M : Type 1} → statement M
 add-term-spec =
     tie.close
     (tie.spec
-    Inv-loop
-    μ-loop
-    loop-holds
-    mul-p
-    element-copy-out-p
-    mul-p-2
-    element-copy-out-p-2
-    mul-p-3
-    element-write-p
-    add-j
-    loop-less
-    loop-again
-    returns)
+    (λ c κs. search needs) (λ c κs. search needs) (λ c κs. search needs) (λ c κs. search needs) (λ c κs. search needs) int-to-float-add-quotients
+    (λ c κs. search needs) returns returns-2 returns-3 returns-4 returns-5 (λ c. search needs))

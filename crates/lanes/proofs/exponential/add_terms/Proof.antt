@@ -1,10 +1,9 @@
 -- `add_terms` meets its contract. Assumes nothing.
 use mathlib.Core.Path.{_≡_, refl, _∙_}
-use Prim.Native.Nat.{_≤_, _^_}
+use Prim.Native.Nat.{_≤_}
 use native.Mathlib.Omega.{arith}
 use borrow.Author.Needs.{needs}
-use lib.Ieee.{nan, inFloat}
-use lib.Dec.{le→leb}
+use lib.Ieee.{nan}
 use Rattle.float64.specs.Arithmetic.{of}
 use Rattle.elementary.specs.Exponential.{terms}
 use Rattle.lanes.proofs.Turns.{terms-turn, terms-done}
@@ -18,40 +17,13 @@ Inv-loop p₀ y k₀ p k = (k ≤ 18) × (over 16 (λ j. terms k (of y j) (of p 
 abbrev μ-loop : tie.MeasureT-loop
 μ-loop p₀ y k₀ p k = k
 
-loop-holds : tie.Need-loop-holds Inv-loop μ-loop
-loop-holds c = (search needs, refl)
-
-int-to-float-add-term : tie.Need-int-to-float-add-term Inv-loop μ-loop
-unfolding inFloat
-int-to-float-add-term c = let h : c .before .before .before .loop .k ≤ 2 ^ 53 = omega arith in le→leb _ _ h
-
-add-term-requires : tie.Need-add-term-requires Inv-loop μ-loop
-add-term-requires c κs = search needs
-
-sub-k : tie.Need-sub-k Inv-loop μ-loop
-sub-k c = search needs
-
-loop-less : tie.Need-loop-less Inv-loop μ-loop
-loop-less c = search needs
-
 loop-again : tie.Need-loop-again Inv-loop μ-loop
 loop-again c =
-    let l = c .before .before .before .before in
-    (omega arith, terms-turn 16 (l .before .args .y .now) (l .loop .k) (l .loop .p) (c .before .before .before .loop-test .taken) (c .add-term .ensures) ∙ l .loop .inv .1)
+    let l = c .before .before .before in
+    (omega arith, terms-turn 16 (l .before .args .y .now) (l .loop .k) (l .loop .p) (c .before .before .loop-test .taken) (c .add-term .ensures) ∙ l .loop .inv .1)
 
 returns : tie.Need-returns Inv-loop μ-loop
 returns c = terms-done 16 (c .before .before .args .y .now) (c .before .loop .k) (c .before .loop .p) (c .loop-test .left) ∙ c .before .loop .inv .1
 
 pub add-terms-spec : {M : Type 1} → statement M
-add-terms-spec =
-    tie.close
-    (tie.spec
-    Inv-loop
-    μ-loop
-    loop-holds
-    int-to-float-add-term
-    add-term-requires
-    sub-k
-    loop-less
-    loop-again
-    returns)
+add-terms-spec = tie.close (tie.spec Inv-loop μ-loop (λ c. (search needs, refl)) (λ c κs. search needs) (λ c. search needs) (λ c. search needs) loop-again returns)

@@ -19,24 +19,6 @@ abbrev μ-loop : tie.MeasureT-loop
 loop-holds : tie.Need-loop-holds Inv-loop μ-loop
 loop-holds c = (omega arith, upto-none _ _)
 
-mul-y : tie.Need-mul-y Inv-loop μ-loop
-mul-y c = search needs
-
-element-copy-out-y : tie.Need-element-copy-out-y Inv-loop μ-loop
-element-copy-out-y c = search needs
-
-mul-y-2 : tie.Need-mul-y-2 Inv-loop μ-loop
-mul-y-2 c = search needs
-
-element-write-y : tie.Need-element-write-y Inv-loop μ-loop
-element-write-y c = search needs
-
-add-j : tie.Need-add-j Inv-loop μ-loop
-add-j c = search needs
-
-loop-less : tie.Need-loop-less Inv-loop μ-loop
-loop-less c = search needs
-
 loop-again : tie.Need-loop-again Inv-loop μ-loop
 loop-again c = (omega arith, upto-more _ _ _ (c .before .before .loop .inv .1) refl)
 
@@ -49,14 +31,5 @@ pub divide-by-1024-spec : {M : Type 1} → statement M
 divide-by-1024-spec =
     tie.close
     (tie.spec
-    Inv-loop
-    μ-loop
-    loop-holds
-    mul-y
-    element-copy-out-y
-    mul-y-2
-    element-write-y
-    add-j
-    loop-less
-    loop-again
-    returns)
+    Inv-loop μ-loop loop-holds (λ c. search needs) (λ c. search needs) (λ c. search needs) (λ c. search needs) (λ c. search needs) (λ c. search needs)
+    loop-again returns)

@@ -18,15 +18,6 @@ abbrev μ-loop : tie.MeasureT-loop
 loop-holds : tie.Need-loop-holds Inv-loop μ-loop
 loop-holds c = refl
 
-square-lanes-requires : tie.Need-square-lanes-requires Inv-loop μ-loop
-square-lanes-requires c κs = search needs
-
-sub-n : tie.Need-sub-n Inv-loop μ-loop
-sub-n c = search needs
-
-loop-less : tie.Need-loop-less Inv-loop μ-loop
-loop-less c = search needs
-
 loop-again : tie.Need-loop-again Inv-loop μ-loop
 loop-again c =
     let l = c .before .before .before in
@@ -36,6 +27,4 @@ returns : tie.Need-returns Inv-loop μ-loop
 returns c = squared-done 16 (c .before .loop .n) (c .before .loop .p) (c .loop-test .left) ∙ c .before .loop .inv
 
 pub square-ten-times-spec : {M : Type 1} → statement M
-square-ten-times-spec =
-    tie.close
-    (tie.spec Inv-loop μ-loop loop-holds square-lanes-requires sub-n loop-less loop-again returns)
+square-ten-times-spec = tie.close (tie.spec Inv-loop μ-loop loop-holds (λ c κs. search needs) (λ c. search needs) (λ c. search needs) loop-again returns)

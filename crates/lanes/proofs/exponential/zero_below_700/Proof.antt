@@ -21,33 +21,6 @@ abbrev μ-loop : tie.MeasureT-loop
 loop-holds : tie.Need-loop-holds Inv-loop μ-loop
 loop-holds c = (omega arith, upto-none _ _)
 
-mul-power-or-zero : tie.Need-mul-power-or-zero Inv-loop μ-loop
-mul-power-or-zero c = search needs
-
-element-copy-out-power-or-zero : tie.Need-element-copy-out-power-or-zero Inv-loop μ-loop
-element-copy-out-power-or-zero c = search needs
-
-mul-power-or-zero-2 : tie.Need-mul-power-or-zero-2 Inv-loop μ-loop
-mul-power-or-zero-2 c = search needs
-
-element-copy-out-power-or-zero-2 : tie.Need-element-copy-out-power-or-zero-2 Inv-loop μ-loop
-element-copy-out-power-or-zero-2 c = search needs
-
-power-or-zero-requires : tie.Need-power-or-zero-requires Inv-loop μ-loop
-power-or-zero-requires c κs = search needs
-
-mul-p : tie.Need-mul-p Inv-loop μ-loop
-mul-p c = search needs
-
-element-write-p : tie.Need-element-write-p Inv-loop μ-loop
-element-write-p c = search needs
-
-add-j : tie.Need-add-j Inv-loop μ-loop
-add-j c = search needs
-
-loop-less : tie.Need-loop-less Inv-loop μ-loop
-loop-less c = search needs
-
 loop-again : tie.Need-loop-again Inv-loop μ-loop
 loop-again c =
     let l = c .before .before .before .before in
@@ -63,17 +36,5 @@ pub zero-below-700-spec : {M : Type 1} → statement M
 zero-below-700-spec =
     tie.close
     (tie.spec
-    Inv-loop
-    μ-loop
-    loop-holds
-    mul-power-or-zero
-    element-copy-out-power-or-zero
-    mul-power-or-zero-2
-    element-copy-out-power-or-zero-2
-    power-or-zero-requires
-    mul-p
-    element-write-p
-    add-j
-    loop-less
-    loop-again
-    returns)
+    Inv-loop μ-loop loop-holds (λ c. search needs) (λ c. search needs) (λ c. search needs) (λ c. search needs) (λ c κs. search needs)
+    (λ c. search needs) (λ c. search needs) (λ c. search needs) (λ c. search needs) loop-again returns)

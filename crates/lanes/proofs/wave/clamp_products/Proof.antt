@@ -19,33 +19,6 @@ abbrev μ-loop : tie.MeasureT-loop
 loop-holds : tie.Need-loop-holds Inv-loop μ-loop
 loop-holds c = (omega arith, upto-none _ _)
 
-mul-clamp : tie.Need-mul-clamp Inv-loop μ-loop
-mul-clamp c = search needs
-
-element-copy-out-clamp : tie.Need-element-copy-out-clamp Inv-loop μ-loop
-element-copy-out-clamp c = search needs
-
-mul-clamp-2 : tie.Need-mul-clamp-2 Inv-loop μ-loop
-mul-clamp-2 c = search needs
-
-element-copy-out-clamp-2 : tie.Need-element-copy-out-clamp-2 Inv-loop μ-loop
-element-copy-out-clamp-2 c = search needs
-
-clamp-requires : tie.Need-clamp-requires Inv-loop μ-loop
-clamp-requires c κs = search needs
-
-mul-q : tie.Need-mul-q Inv-loop μ-loop
-mul-q c = search needs
-
-element-write-q : tie.Need-element-write-q Inv-loop μ-loop
-element-write-q c = search needs
-
-add-j : tie.Need-add-j Inv-loop μ-loop
-add-j c = search needs
-
-loop-less : tie.Need-loop-less Inv-loop μ-loop
-loop-less c = search needs
-
 loop-again : tie.Need-loop-again Inv-loop μ-loop
 loop-again c =
     let l = c .before .before .before .before in
@@ -61,17 +34,5 @@ pub clamp-products-spec : {M : Type 1} → statement M
 clamp-products-spec =
     tie.close
     (tie.spec
-    Inv-loop
-    μ-loop
-    loop-holds
-    mul-clamp
-    element-copy-out-clamp
-    mul-clamp-2
-    element-copy-out-clamp-2
-    clamp-requires
-    mul-q
-    element-write-q
-    add-j
-    loop-less
-    loop-again
-    returns)
+    Inv-loop μ-loop loop-holds (λ c. search needs) (λ c. search needs) (λ c. search needs) (λ c. search needs) (λ c κs. search needs)
+    (λ c. search needs) (λ c. search needs) (λ c. search needs) (λ c. search needs) loop-again returns)

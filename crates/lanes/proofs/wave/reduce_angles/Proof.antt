@@ -19,27 +19,6 @@ abbrev μ-loop : tie.MeasureT-loop
 loop-holds : tie.Need-loop-holds Inv-loop μ-loop
 loop-holds c = (omega arith, upto-none _ _)
 
-mul-reduced-angle : tie.Need-mul-reduced-angle Inv-loop μ-loop
-mul-reduced-angle c = search needs
-
-element-copy-out-reduced-angle : tie.Need-element-copy-out-reduced-angle Inv-loop μ-loop
-element-copy-out-reduced-angle c = search needs
-
-reduced-angle-requires : tie.Need-reduced-angle-requires Inv-loop μ-loop
-reduced-angle-requires c κs = search needs
-
-mul-r : tie.Need-mul-r Inv-loop μ-loop
-mul-r c = search needs
-
-element-write-r : tie.Need-element-write-r Inv-loop μ-loop
-element-write-r c = search needs
-
-add-j : tie.Need-add-j Inv-loop μ-loop
-add-j c = search needs
-
-loop-less : tie.Need-loop-less Inv-loop μ-loop
-loop-less c = search needs
-
 loop-again : tie.Need-loop-again Inv-loop μ-loop
 loop-again c = (omega arith, upto-more _ _ _ (c .before .before .before .loop .inv .1) (c .reduced-angle .ensures))
 
@@ -52,15 +31,5 @@ pub reduce-angles-spec : {M : Type 1} → statement M
 reduce-angles-spec =
     tie.close
     (tie.spec
-    Inv-loop
-    μ-loop
-    loop-holds
-    mul-reduced-angle
-    element-copy-out-reduced-angle
-    reduced-angle-requires
-    mul-r
-    element-write-r
-    add-j
-    loop-less
-    loop-again
-    returns)
+    Inv-loop μ-loop loop-holds (λ c. search needs) (λ c. search needs) (λ c κs. search needs) (λ c. search needs) (λ c. search needs)
+    (λ c. search needs) (λ c. search needs) loop-again returns)

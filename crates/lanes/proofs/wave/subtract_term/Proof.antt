@@ -19,30 +19,6 @@ abbrev μ-loop : tie.MeasureT-loop
 loop-holds : tie.Need-loop-holds Inv-loop μ-loop
 loop-holds c = (omega arith, upto-none _ _)
 
-mul-q : tie.Need-mul-q Inv-loop μ-loop
-mul-q c = search needs
-
-element-copy-out-q : tie.Need-element-copy-out-q Inv-loop μ-loop
-element-copy-out-q c = search needs
-
-mul-q-2 : tie.Need-mul-q-2 Inv-loop μ-loop
-mul-q-2 c = search needs
-
-element-copy-out-q-2 : tie.Need-element-copy-out-q-2 Inv-loop μ-loop
-element-copy-out-q-2 c = search needs
-
-mul-q-3 : tie.Need-mul-q-3 Inv-loop μ-loop
-mul-q-3 c = search needs
-
-element-write-q : tie.Need-element-write-q Inv-loop μ-loop
-element-write-q c = search needs
-
-add-j : tie.Need-add-j Inv-loop μ-loop
-add-j c = search needs
-
-loop-less : tie.Need-loop-less Inv-loop μ-loop
-loop-less c = search needs
-
 loop-again : tie.Need-loop-again Inv-loop μ-loop
 loop-again c =
     let l = c .before .before .before in
@@ -58,16 +34,5 @@ pub subtract-term-spec : {M : Type 1} → statement M
 subtract-term-spec =
     tie.close
     (tie.spec
-    Inv-loop
-    μ-loop
-    loop-holds
-    mul-q
-    element-copy-out-q
-    mul-q-2
-    element-copy-out-q-2
-    mul-q-3
-    element-write-q
-    add-j
-    loop-less
-    loop-again
-    returns)
+    Inv-loop μ-loop loop-holds (λ c. search needs) (λ c. search needs) (λ c. search needs) (λ c. search needs) (λ c. search needs) (λ c. search needs)
+    (λ c. search needs) (λ c. search needs) loop-again returns)

@@ -23,30 +23,12 @@ abbrev μ-loop : tie.MeasureT-loop
 loop-holds : tie.Need-loop-holds Inv-loop μ-loop
 loop-holds c = (search needs, refl)
 
-mul-d : tie.Need-mul-d Inv-loop μ-loop
-mul-d c = search needs
-
-add-d : tie.Need-add-d Inv-loop μ-loop
-add-d c = search needs
-
-sub-subtract-term : tie.Need-sub-subtract-term Inv-loop μ-loop
-sub-subtract-term c = search needs
-
 mul-subtract-term : tie.Need-mul-subtract-term Inv-loop μ-loop
 mul-subtract-term c = omega (arith, divisor-small (2 * c .before .before .loop .k + 1) (omega arith))
 
 int-to-float-subtract-term : tie.Need-int-to-float-subtract-term Inv-loop μ-loop
 unfolding inFloat
 int-to-float-subtract-term c = le→leb _ _ (le-trans (divisor-small (2 * c .before .before .before .loop .k + 1) (omega arith)) (lit≤ tt))
-
-subtract-term-requires : tie.Need-subtract-term-requires Inv-loop μ-loop
-subtract-term-requires c κs = search needs
-
-sub-k : tie.Need-sub-k Inv-loop μ-loop
-sub-k c = search needs
-
-loop-less : tie.Need-loop-less Inv-loop μ-loop
-loop-less c = search needs
 
 loop-again : tie.Need-loop-again Inv-loop μ-loop
 loop-again c =
@@ -64,16 +46,5 @@ pub subtract-terms-spec : {M : Type 1} → statement M
 subtract-terms-spec =
     tie.close
     (tie.spec
-    Inv-loop
-    μ-loop
-    loop-holds
-    mul-d
-    add-d
-    sub-subtract-term
-    mul-subtract-term
-    int-to-float-subtract-term
-    subtract-term-requires
-    sub-k
-    loop-less
-    loop-again
-    returns)
+    Inv-loop μ-loop loop-holds (λ c. search needs) (λ c. search needs) (λ c. search needs) mul-subtract-term int-to-float-subtract-term
+    (λ c κs. search needs) (λ c. search needs) (λ c. search needs) loop-again returns)
