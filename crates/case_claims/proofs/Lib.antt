@@ -1,1 +1,2 @@
+-- The claims of specs/Claims, proved.
 pub mod Claims

@@ -164,24 +164,28 @@ module _ (p : FaultPlan) where
 
   -- ---- a step of a fault neither cleared nor detected, as the code works it out
 
-  module _ (n step : ℕ) (y moved : List Float) (time t : Float) (active shown : Bool) (et : t ≡ timeOf step) (ey : moved ≡ numbersBy (activeBy t active) y) (es : shown ≡ shows moved y t time) where
-    step-is : lookStep step (at y time active) ≡ record { y = moved; time = t; cleared = activeBy t active && clearsBy t; active = activeBy t active; detected = leb 1 step && shown }
-    unfolding lookStep
-    step-is = rw (es, ey, et, counted (leb 1 step) (shows (numbersBy (activeBy (timeOf step) active) y) y (timeOf step) time))
+  pub record Turned (step : ℕ) (y moved : List Float) (time t : Float) (active shown : Bool) : Type 0 where
+    pub is : lookStep step (at y time active) ≡ record { y = moved; time = t; cleared = activeBy t active && clearsBy t; active = activeBy t active; detected = leb 1 step && shown }
 
+  pub turned : (step : ℕ) (y moved : List Float) (time t : Float) (active shown : Bool) → t ≡ timeOf step → moved ≡ numbersBy (activeBy t active) y → shown ≡ shows moved y t time → Turned step y moved time t active shown
+  unfolding lookStep
+  turned step y moved time t active shown et ey es =
+      record { is = rw (es, ey, et, counted (leb 1 step) (shows (numbersBy (activeBy (timeOf step) active) y) y (timeOf step) time)) }
+
+  module _ (n step : ℕ) {y moved : List Float} {time t : Float} {active shown : Bool} (e : Turned step y moved time t active shown) where
     -- it is detected
     pub found : (leb 1 step && shown) ≡ true → lookFrom step (at y time active) (suc n) .detected ≡ true
     unfolding lookFrom
-    found h = detected-stays n (suc step) (lookStep step (at y time active)) (rw step-is h)
+    found h = detected-stays n (suc step) (lookStep step (at y time active)) (rw (e .is) h)
 
     -- it clears the fault and is not detected
     pub gone : (leb 1 step && shown) ≡ false → (activeBy t active && clearsBy t) ≡ true → lookFrom step (at y time active) (suc n) .detected ≡ false
     unfolding lookFrom
-    gone h k = cleared-stays n (suc step) (lookStep step (at y time active)) (rw step-is k) ∙ rw step-is h
+    gone h k = cleared-stays n (suc step) (lookStep step (at y time active)) (rw (e .is) k) ∙ rw (e .is) h
 
     -- neither
     pub next : (leb 1 step && shown) ≡ false → (activeBy t active && clearsBy t) ≡ false → lookFrom step (at y time active) (suc n) .detected ≡ lookFrom (suc step) (at moved t (activeBy t active)) n .detected
     unfolding lookFrom
     next h k =
         ap (λ (l : Look). lookFrom (suc step) l n .detected)
-        (step-is ∙ λ i. record { y = moved; time = t; cleared = k i; active = activeBy t active; detected = h i })
+        (e .is ∙ λ i. record { y = moved; time = t; cleared = k i; active = activeBy t active; detected = h i })

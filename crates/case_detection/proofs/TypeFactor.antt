@@ -1,4 +1,4 @@
--- Whether a fault is detected does not hang on the type of the fault: plans that differ in the circuit's type factor alone agree. Assumes nothing.
+-- Whether a fault is detected does not depend on the type of the fault: plans that differ in the circuit's type factor alone agree. Assumes nothing.
 use Prim.Native.Nat.{ℕ, zero, suc}
 use mathlib.Core.Path.{_≡_, refl, sym, _∙_}
 use lib.Ieee.{Float}

@@ -1,5 +1,5 @@
 // The outcome of a case at its end, from the steps in which its fault lasts: after clearing nothing of it changes, and once a step is
-// detected it does not hang on the state of the network.
+// detected it does not depend on the state of the network.
 ghost use mathlib.Core.Path.{_≡_};
 ghost use mathlib.Core.Bool.{Bool, cond};
 ghost use Rattle.case_steps.specs.OpenCases.{startCase};

@@ -19,7 +19,7 @@ use Rattle.fault_sums.specs.declared.steps.Sums.{Sums}
 use Rattle.fault_sums.specs.Sums.{sumStep, sumsFrom, sumsOf, withFactor}
 use Rattle.fault_sums.specs.Blocks.{added, blockTimes, lanesFrom}
 
--- ---- the loop over the lanes: what is left to fold gives what all gives
+-- ---- the loop over the lanes: folding what is left completes the fold of all
 
 module _ (f h : ℕ → Float) (j n : ℕ) (s : Sums) where
   pub lanes-more : j < n → lanesFrom f h (j + 1) (added (f j) (h j) s) (n - (j + 1)) ≡ lanesFrom f h j s (n - j)
@@ -86,7 +86,7 @@ module _ (c : FaultCircuit) (factor dt : Float) (step n : ℕ) (s : Sums) (l : n
       sums-shifted (dissipated dt (c .«r_fault_ohm» ⊕ c .«r_total_ohm»)) (λ j. of i j ⊗ factor) (λ k. currentOf (withFactor c factor) (timeAt dt k)) step 0 step n s
       (omega arith) typed
 
--- the loop over the blocks: what is left to fold gives what all gives
+-- the loop over the blocks: folding what is left completes the fold of all
 module _ (c : FaultCircuit) (factor dt : Float) (step end : ℕ) (s : Sums) where
   pub blocks-more
       : (n : ℕ) {i : List Float} {t : Sums} → n ≡ min (end - step) 16 → i ≡ tab 16 (λ j. siteCurrent c (of (blockTimes dt step n) j))

@@ -50,9 +50,7 @@ pub fn fault_sums(circuit: FaultCircuit, dt_ms: f64, first: u64, end: u64, start
 
 // The same of the three types of fault at the place, from nothing on. Only the last factor of a current depends on the type, so what comes before it is worked out once.
 pub fn site_sums(circuit: FaultCircuit, dt_ms: f64, first: u64, end: u64) -> SiteSums
-    ensures ground { λ r. ⌜ r .ground ≡ sumsOf (withFactor circuit groundPart) «dt_ms» first noSums (end - first) ⌝ }
-    ensures pole { λ r. ⌜ r .pole ≡ sumsOf (withFactor circuit one) «dt_ms» first noSums (end - first) ⌝ }
-    ensures internal { λ r. ⌜ r .internal ≡ sumsOf (withFactor circuit internalPart) «dt_ms» first noSums (end - first) ⌝ }
+    ensures { λ r. ⌜ (r .ground ≡ sumsOf (withFactor circuit groundPart) «dt_ms» first noSums (end - first)) × (r .pole ≡ sumsOf (withFactor circuit one) «dt_ms» first noSums (end - first)) × (r .internal ≡ sumsOf (withFactor circuit internalPart) «dt_ms» first noSums (end - first)) ⌝ }
 {
     let r_ohm = circuit.r_fault_ohm + circuit.r_total_ohm;
     let none = Sums {
@@ -115,9 +113,7 @@ fn block_times(dt_ms: f64, first: u64, n: usize) -> [f64; 16]
 // The first n lanes of a block, for the three types.
 fn add_site_block(s: SiteSums, i: &[f64; 16], r_ohm: f64, dt_ms: f64, n: usize) -> SiteSums
     requires { ⌜ n ≤ 16 ⌝ }
-    ensures ground { λ r. ⌜ r .ground ≡ sumsFrom (λ j. of (now (i .entry)) j ⊗ groundPart) (dissipated «dt_ms» «r_ohm») 0 (s .ground) n ⌝ }
-    ensures pole { λ r. ⌜ r .pole ≡ sumsFrom (λ j. of (now (i .entry)) j ⊗ one) (dissipated «dt_ms» «r_ohm») 0 (s .pole) n ⌝ }
-    ensures internal { λ r. ⌜ r .internal ≡ sumsFrom (λ j. of (now (i .entry)) j ⊗ internalPart) (dissipated «dt_ms» «r_ohm») 0 (s .internal) n ⌝ }
+    ensures { λ r. ⌜ (r .ground ≡ sumsFrom (λ j. of (now (i .entry)) j ⊗ groundPart) (dissipated «dt_ms» «r_ohm») 0 (s .ground) n) × (r .pole ≡ sumsFrom (λ j. of (now (i .entry)) j ⊗ one) (dissipated «dt_ms» «r_ohm») 0 (s .pole) n) × (r .internal ≡ sumsFrom (λ j. of (now (i .entry)) j ⊗ internalPart) (dissipated «dt_ms» «r_ohm») 0 (s .internal) n) ⌝ }
 {
     let ground = s.ground;
     let pole = s.pole;

@@ -1,4 +1,4 @@
--- A loop that looks for the first number up to an end for which a test holds: what is left to look through gives what all gives. And the window that two such numbers make. Assumes nothing.
+-- A loop that looks for the first number up to an end for which a test holds: the search from where it stands finds what the search from its start finds. And the window that two such numbers make. Assumes nothing.
 use Prim.Native.Nat.{ℕ, suc, _+_, _-_, _≤_, _<_}
 use native.Mathlib.Numerals.{add-one}
 use native.Mathlib.Omega.{arith}

@@ -1,1 +1,2 @@
+-- The steps in which a fault lasts.
 pub mod Window

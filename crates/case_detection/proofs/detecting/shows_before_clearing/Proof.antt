@@ -1,5 +1,5 @@
 -- `shows_before_clearing` meets its contract: the steps that are left, from the numbers, the time and the flag of the last, detect what all of them do. Assumes nothing.
-use Rattle.case_detection.proofs.Looks.{at, lookFrom, from-open, found, gone, next}
+use Rattle.case_detection.proofs.Looks.{at, lookFrom, from-open, Turned, turned, found, gone, next}
 use Rattle.case_steps.specs.Plans.{planCaseFrom}
 use Rattle.fault_plan.specs.declared.plan.FaultPlan.{FaultPlan}
 use Rattle.fault_plan.specs.declared.plan.FaultConstants.{FaultConstants}
@@ -58,59 +58,32 @@ opened l =
 one-left : (t : tie.In-loop Inv-loop μ-loop) → let l = t .before in let end = start l .args .end in end - l .loop .step ≡ suc (end - (l .loop .step + 1))
 one-left t = omega (arith, t .loop-test .taken)
 
+-- what a turn works out of its step
+step-turned : (s : tie.After-shows-fault Inv-loop μ-loop)
+    → let l = turn s .before in
+    Turned (start l .args .plan) (l .loop .step) (l .loop .y) (moving s .numbers-after .result .y) (l .loop .«time-ms») (clock s .step-time-ms .result) (l .loop .active) (s .shows-fault .result)
+step-turned s = turned _ _ _ _ _ _ _ _ (clock s .step-time-ms .ensures) (moving s .numbers-after .ensures) (s .shows-fault .ensures)
+
+-- what is left of the run where a turn begins
+abbrev left-of : tie.In-loop Inv-loop μ-loop → ℕ
+left-of t = let l = t .before in start l .args .end - (l .loop .step + 1)
+
 loop-holds : tie.Need-loop-holds Inv-loop μ-loop
 loop-holds c = refl
 
 returns : tie.Need-returns Inv-loop μ-loop
 returns c =
     let s = c .before in
-    let m = moving s in
-    let w = clock s in
     let t = turn s in
     let l = t .before in
-    let a = start l .args in
-    let e =
-    found
-    (a .plan)
-    (a .end - (l .loop .step + 1))
-    (l .loop .step)
-    (l .loop .y)
-    (m .numbers-after .result .y)
-    (l .loop .«time-ms»)
-    (w .step-time-ms .result)
-    (l .loop .active)
-    (s .shows-fault .result)
-    (w .step-time-ms .ensures)
-    (m .numbers-after .ensures)
-    (s .shows-fault .ensures)
-    (c .if1 .taken) in
-    sym (opened l ∙ sym (l .loop .inv) ∙ rw (one-left t) e)
+    sym (opened l ∙ sym (l .loop .inv) ∙ rw (one-left t) (found _ (left-of t) _ (step-turned s) (c .if1 .taken)))
 
 returns-2 : tie.Need-returns-2 Inv-loop μ-loop
 returns-2 c =
     let s = c .before .before in
-    let m = moving s in
-    let w = clock s in
     let t = turn s in
     let l = t .before in
-    let a = start l .args in
-    let e =
-    gone
-    (a .plan)
-    (a .end - (l .loop .step + 1))
-    (l .loop .step)
-    (l .loop .y)
-    (m .numbers-after .result .y)
-    (l .loop .«time-ms»)
-    (w .step-time-ms .result)
-    (l .loop .active)
-    (s .shows-fault .result)
-    (w .step-time-ms .ensures)
-    (m .numbers-after .ensures)
-    (s .shows-fault .ensures)
-    (c .before .if1 .left)
-    (c .if2 .taken) in
-    sym (opened l ∙ sym (l .loop .inv) ∙ rw (one-left t) e)
+    sym (opened l ∙ sym (l .loop .inv) ∙ rw (one-left t) (gone _ (left-of t) _ (step-turned s) (c .before .if1 .left) (c .if2 .taken)))
 
 add-step : tie.Need-add-step Inv-loop μ-loop
 add-step c = let t = turn (c .before .before) in omega (arith, t .loop-test .taken, start (t .before) .fits .end)
@@ -118,28 +91,9 @@ add-step c = let t = turn (c .before .before) in omega (arith, t .loop-test .tak
 loop-again : tie.Need-loop-again Inv-loop μ-loop
 loop-again c =
     let s = c .before .before in
-    let m = moving s in
-    let w = clock s in
     let t = turn s in
-    let l = t .before in
-    let a = start l .args in
-    let e =
-    next
-    (a .plan)
-    (a .end - (l .loop .step + 1))
-    (l .loop .step)
-    (l .loop .y)
-    (m .numbers-after .result .y)
-    (l .loop .«time-ms»)
-    (w .step-time-ms .result)
-    (l .loop .active)
-    (s .shows-fault .result)
-    (w .step-time-ms .ensures)
-    (m .numbers-after .ensures)
-    (s .shows-fault .ensures)
-    (c .before .if1 .left)
-    (c .if2 .left) in
-    rw add-one (rw add-one at (sym e ∙ (rw (one-left t) at (l .loop .inv))))
+    let e = next _ (left-of t) _ (step-turned s) (c .before .if1 .left) (c .if2 .left) in
+    rw add-one (rw add-one at (sym e ∙ (rw (one-left t) at (t .before .loop .inv))))
 
 returns-3 : tie.Need-returns-3 Inv-loop μ-loop
 unfolding lookFrom

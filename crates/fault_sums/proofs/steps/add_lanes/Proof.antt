@@ -1,4 +1,4 @@
--- `add_lanes` meets its contract: what is left to fold gives what all gives. Assumes nothing.
+-- `add_lanes` meets its contract: folding what is left completes the fold of all. Assumes nothing.
 use Rattle.fault_sums.specs.Blocks.{lanesFrom}
 use Rattle.fault_sums.proofs.Blocks.{lanes-more, lanes-done}
 use Rattle.float64.specs.Arithmetic.{of}

@@ -1,4 +1,4 @@
--- `first_active` meets its contract: what is left to look through gives what all gives. Assumes nothing.
+-- `first_active` meets its contract: the search from where it stands finds what the whole search finds. Assumes nothing.
 use Rattle.fault_window.specs.Window.{until, activeIn}
 use Rattle.fault_window.proofs.Turns.{found, further, none}
 use Prim.Native.Nat.{_-_}
