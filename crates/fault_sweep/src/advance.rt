@@ -5,6 +5,7 @@ ghost use Rattle.fault_sweep.specs.Advance.{sweepBroken, sweepStepper, a
 use crate::sweep::AdvancedSweep;
 use crate::sweep::Sweep;
 use case_reasons::ROW_LENGTH;
+use case_rows::put_case;
 use closed_cases::closed_outcome;
 use closed_cases::ends_held;
 use closed_cases::no_cable_ends;
@@ -15,7 +16,6 @@ use rules::check_sweep;
 use sweep_cases::common_of;
 use sweep_cases::make_steps;
 use sweep_cases::open_case;
-use sweep_cases::put_case;
 use sweep_cases::steps_left_open;
 use timing::total_steps;
 

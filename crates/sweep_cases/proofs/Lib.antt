@@ -1,4 +1,2 @@
--- A row that fits is written, if the case has one.
-mod Rows
 -- What a caller learns from the contracts in src/, and that nothing is asked of one.
 pub mod Tied

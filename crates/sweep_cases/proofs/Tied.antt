@@ -17,8 +17,6 @@ use Rattle.sweep_cases.proofs.cases.steps_left_open as now-contract
 use Rattle.sweep_cases.proofs.cases.steps_left_open.Reads as now-reads
 use Rattle.sweep_cases.proofs.cases.plan_at as plan-contract
 use Rattle.sweep_cases.proofs.cases.plan_at.Reads as plan-reads
-use Rattle.sweep_cases.proofs.cases.put_case as put-contract
-use Rattle.sweep_cases.proofs.cases.put_case.Reads as put-reads
 use Rattle.sweep_cases.proofs.cases.open_case as open-contract
 use Rattle.sweep_cases.proofs.cases.open_case.Kinds as open-kinds
 use Rattle.sweep_cases.proofs.cases.open_case.Reads as open-reads
@@ -46,6 +44,3 @@ now-any κs a = tt
 
 pub plan-any : (κs : Lfts 0) (a : ArgsD plan-contract.signature κs) → plan-reads.Asked κs a
 plan-any κs a = tt
-
-pub put-any : (κs : Lfts 1) (a : ArgsD put-contract.signature κs) → put-reads.Asked κs a
-put-any κs a = tt

@@ -1,16 +1,10 @@
 -- What an advance works out once, for all cases and for one. Definitions only.
-use Prim.Native.Nat.{ℕ, _+_, _*_}
+use Prim.Native.Nat.{ℕ}
 use mathlib.Core.Bool.{Bool, false, cond}
-use mathlib.Core.List.{List}
-use lib.Dec.{leb}
-use lib.ListN.{length, getD}
-use lib.Ieee.{Float}
-use Rattle.float64.specs.Constants.{nought}
 use Rattle.grid.specs.declared.parts.SweepOrder.{SweepOrder}
 use Rattle.grid.specs.declared.simulator.DcSwitchingSimulator.{DcSwitchingSimulator}
 use Rattle.network.specs.Network.{networkOf}
 use Rattle.run_start.specs.Start.{ratedOf}
-use Rattle.power_flow.specs.declared.flow.DcGridSolution.{DcGridSolution}
 use Rattle.fault_plan.specs.declared.plan.FaultPlan.{FaultPlan}
 use Rattle.fault_plan.specs.Plans.{constantsOf}
 use Rattle.fault_cases.specs.declared.cases.CasePlace.{CasePlace}
@@ -43,11 +37,3 @@ planAt x place = record { constants = constantsOf (x .grid) (faultIn (x .order) 
 
 abbrev pub planFor : Common → ℕ → FaultPlan
 planFor x k = planAt x (placeOf (x .order) k)
-
--- the flow's loss in a cable
-abbrev pub lossIn : DcGridSolution → ℕ → Float
-lossIn flow cable = getD (flow .«cable_losses_mw») cable nought
-
--- a whole row fits behind so many rows
-abbrev pub roomBehind : ℕ → List ℕ → Bool
-roomBehind out rows = leb (8 * out + 8) (length rows)

@@ -1,20 +1,11 @@
-// What an advance does with one case: its steps, its row, and the case that is open next.
+// What an advance does with one case: its steps, and the case that is open next.
 ghost use mathlib.Core.Path.{_≡_};
 ghost use mathlib.Core.Bool.{cond};
-ghost use Prim.Native.Nat.{_-_, _*_, min};
-ghost use lib.ListN.{length};
-ghost use lib.Seq.{sets};
-ghost use Rattle.portions.specs.Stopping.{joined};
-ghost use Rattle.portions.specs.Cases.{toList};
+ghost use Prim.Native.Nat.{_-_, min};
 ghost use Rattle.case_steps.specs.OpenCases.{startCase, noCase};
 ghost use Rattle.case_steps.specs.Plans.{planCaseFrom};
-ghost use Rattle.case_listing.specs.Listing.{rowFor};
-ghost use Rattle.sweep_cases.specs.Plans.{lossIn, windowFor, commonOf, planAt, planFor, roomBehind};
+ghost use Rattle.sweep_cases.specs.Plans.{windowFor, commonOf, planAt, planFor};
 use breaker_times::fastest_breaker_clearing_ms;
-use case_reasons::CaseOutcome;
-use case_reasons::ROW_LENGTH;
-use case_reasons::put_row;
-use case_reasons::reasons_for;
 use case_steps::OpenCase;
 use case_steps::case_steps;
 use case_steps::first_open_case;
@@ -30,12 +21,9 @@ use grid::DcSwitchingSimulator;
 use grid::SweepOrder;
 use network::Network;
 use network::network_of;
-use power_flow::DcGridSolution;
 use run_start::rated_voltages;
 use timing::time_step_ms;
 use timing::total_steps;
-
-const MOST_CABLES: u64 = 64;
 
 // What all cases have in common, worked out once for an advance.
 pub struct Common {
@@ -123,46 +111,6 @@ pub fn plan_at(common: Common, place: CasePlace) -> FaultPlan
         network,
         rated_kv,
     }
-}
-
-// Writes the row of case k behind `out` rows, if it has one and a whole row fits, and says how many that were.
-pub fn put_case(
-    rows: &mut [u64],
-    out: usize,
-    g: DcSwitchingSimulator,
-    order: SweepOrder,
-    flow: DcGridSolution,
-    k: u64,
-    outcome: CaseOutcome,
-) -> usize
-    ensures answer { λ r. ⌜ r ≡ cond (roomBehind out (now (rows .entry))) (length (toList (rowFor g order flow k outcome))) 0 ⌝ }
-    ensures memory { λ r. ⌜ now (rows .exit) ≡ cond (roomBehind out (now (rows .entry))) (sets (now (rows .entry)) (8 * out) (joined (toList (rowFor g order flow k outcome)))) (now (rows .entry)) ⌝ }
-{
-    if rows.len() / ROW_LENGTH <= out {
-        return 0;
-    }
-    let place = case_place(order, k);
-    let reasons = reasons_for(g, place.cable, outcome);
-    put_row(
-        rows,
-        ROW_LENGTH * out,
-        place,
-        reasons,
-        outcome,
-        loss_of(flow, place.cable),
-    )
-}
-
-// The flow's loss in a cable; zero past the last place.
-fn loss_of(flow: DcGridSolution, cable: u64) -> f64
-    ensures { λ r. ⌜ r ≡ lossIn flow cable ⌝ }
-{
-    let losses = flow.cable_losses_mw;
-    if cable < MOST_CABLES {
-        let at = cable as usize;
-        return losses[at];
-    }
-    0.0
 }
 
 // The case that is open next, before its first step; all zero and false where none is left.

@@ -6,5 +6,4 @@ pub use cases::common_of;
 pub use cases::make_steps;
 pub use cases::open_case;
 pub use cases::plan_at;
-pub use cases::put_case;
 pub use cases::steps_left_open;

@@ -4,18 +4,6 @@ use borrow.Author.Needs.{needs}
 use Rattle.sweep_cases.proofs.cases.common_of.Statement.{statement}
 use Rattle.sweep_cases.proofs.cases.common_of.Tie as tie
 
-network-of-requires : tie.Need-network-of-requires
-network-of-requires c κs = search needs
-
-rated-voltages-requires : tie.Need-rated-voltages-requires
-rated-voltages-requires c κs = search needs
-
-total-steps-requires : tie.Need-total-steps-requires
-total-steps-requires c κs = search needs
-
-window-of-requires : tie.Need-window-of-requires
-window-of-requires c κs = search needs
-
 returns : tie.Need-returns
 unfolding commonOf
 returns c =
@@ -24,4 +12,4 @@ returns c =
     rw (c .window-of .ensures, n .total-steps .ensures, r .rated-voltages .ensures, r .before .network-of .ensures)
 
 pub common-of-spec : {M : Type 1} → statement M
-common-of-spec = tie.close (tie.spec network-of-requires rated-voltages-requires total-steps-requires window-of-requires returns)
+common-of-spec = tie.close (tie.spec (λ c κs. search needs) (λ c κs. search needs) (λ c κs. search needs) (λ c κs. search needs) returns)

@@ -10,11 +10,8 @@ returns c = omega (arith, c .if1 .taken)
 returns-2 : tie.Need-returns-2
 returns-2 c = omega (arith, c .if2 .taken)
 
-sub-result : tie.Need-sub-result
-sub-result c = search needs
-
 returns-3 : tie.Need-returns-3
 returns-3 c = omega (arith, c .before .if1 .left)
 
 pub steps-left-open-spec : {M : Type 1} → statement M
-steps-left-open-spec = tie.close (tie.spec returns returns-2 sub-result returns-3)
+steps-left-open-spec = tie.close (tie.spec returns returns-2 (λ c. search needs) returns-3)

@@ -4,15 +4,6 @@ use borrow.Author.Needs.{needs}
 use Rattle.sweep_cases.proofs.cases.window_of.Statement.{statement}
 use Rattle.sweep_cases.proofs.cases.window_of.Tie as tie
 
-time-step-ms-requires : tie.Need-time-step-ms-requires
-time-step-ms-requires c κs = search needs
-
-fastest-breaker-clearing-ms-requires : tie.Need-fastest-breaker-clearing-ms-requires
-fastest-breaker-clearing-ms-requires c κs = search needs
-
-fault-window-requires : tie.Need-fault-window-requires
-fault-window-requires c κs = search needs
-
 returns : tie.Need-returns
 unfolding windowFor
 returns c =
@@ -25,4 +16,4 @@ unfolding windowFor
 returns-2 c = rw (c .if1 .left)
 
 pub window-of-spec : {M : Type 1} → statement M
-window-of-spec = tie.close (tie.spec time-step-ms-requires fastest-breaker-clearing-ms-requires fault-window-requires returns returns-2)
+window-of-spec = tie.close (tie.spec (λ c κs. search needs) (λ c κs. search needs) (λ c κs. search needs) returns returns-2)

@@ -5,38 +5,20 @@ use native.Mathlib.Omega.{arith}
 use mathlib.Core.Path.{refl}
 use Rattle.fault_cases.specs.Cases.{placeOf}
 use Rattle.case_listing.specs.Listing.{rowFor}
-use Rattle.sweep_cases.specs.Plans.{lossIn}
-use Rattle.sweep_cases.proofs.Rows.{row-count, row-numbers}
+use Rattle.case_rows.specs.Rows.{lossIn}
+use Rattle.case_rows.proofs.Written.{row-count, row-numbers}
 use Prim.Native.Nat.{_+_, _*_, _<_, _≤_}
 use mathlib.Core.Path.{ap, _∙_}
 use lib.ListN.{length}
 use lib.Seq.{sets}
-use Rattle.sweep_cases.proofs.cases.put_case.Statement.{statement}
-use Rattle.sweep_cases.proofs.cases.put_case.Tie as tie
+use Rattle.case_rows.proofs.rows.put_case.Statement.{statement}
+use Rattle.case_rows.proofs.rows.put_case.Tie as tie
 
 returns : tie.Need-returns
 returns c =
     let a = c .before .before .args in
     let short : length (a .rows .now) < 8 * a .out + 8 = omega (arith, c .if1 .taken) in
     rw (lt-leb (8 * a .out + 8) (length (a .rows .now)) short) (refl, refl)
-
-case-place-requires : tie.Need-case-place-requires
-case-place-requires c κs = search needs
-
-reasons-for-requires : tie.Need-reasons-for-requires
-reasons-for-requires c κs = search needs
-
-mul-put-row : tie.Need-mul-put-row
-mul-put-row c = search needs
-
-loss-of-requires : tie.Need-loss-of-requires
-loss-of-requires c κs = search needs
-
-put-row-requires : tie.Need-put-row-requires
-put-row-requires c κs = search needs
-
-same-length : tie.Need-same-length
-same-length c = search needs
 
 returns-2 : tie.Need-returns-2
 unfolding rowFor
@@ -57,11 +39,5 @@ pub put-case-spec : {M : Type 1} → statement M
 put-case-spec =
     tie.close
     (tie.spec
-    returns
-    case-place-requires
-    reasons-for-requires
-    mul-put-row
-    loss-of-requires
-    put-row-requires
-    same-length
+    returns (λ c κs. search needs) (λ c κs. search needs) (λ c. search needs) (λ c κs. search needs) (λ c κs. search needs) (λ c. search needs)
     returns-2)

@@ -1,0 +1,2 @@
+-- What the row of a case needs beside its outcome.
+pub mod Rows
