@@ -49,7 +49,7 @@ fn voltage(station: ConverterStation, cos_alpha: f64, z_base: f64, i_dc_ka: f64)
     v_d0 * cos_alpha - (3.0 / PI) * x_c * i_dc_ka
 }
 
-// The overlap angle is an approximation of 000's, and at most a quarter turn of the half circle.
+// 000 takes a difference of cosines for the overlap angle, and at most PI/4.
 fn power_factor(station: ConverterStation, cos_alpha: f64, i_dc_ka: f64) -> f64
     requires { ⌜ «cos_alpha» ≡ cosAlpha station ⌝ }
     ensures { λ r. ⌜ r ≡ lccPowerFactor station «i_dc_ka» ⌝ }

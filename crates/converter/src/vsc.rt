@@ -46,7 +46,7 @@ fn modulation(v_dc: f64) -> f64
     0.85
 }
 
-// a + b I + c I^2 of a converter with no less losses than others.
+// Losses in MW, less the topology's factor: a + b I + c I^2, with a, b and c from the ratings.
 fn losses(station: ConverterStation, i_dc_ka: f64) -> f64
     ensures { λ r. ⌜ r ≡ lossesAt station «i_dc_ka» ⌝ }
 {

@@ -1,4 +1,4 @@
--- One turn of E's loops and of the series' loop, and their ends: what is left to do gives what all of it gives. Assumes nothing.
+-- One turn of E's loops and of the series' loop, and their ends: from where a loop is, the turns still to be made give the answer of the whole loop. Assumes nothing.
 use mathlib.Core.Path.{_≡_, refl}
 use Prim.Native.Nat.{ℕ, zero, suc, _-_, _≤_, _<_}
 use native.Mathlib.Nat.{lt-irrefl, not-suc-le-zero}

@@ -1,4 +1,4 @@
--- What document 01 says of E's argument: of an accepted fault it is never positive. `exponents` (fault_circuit/specs/Current) lists every argument. The proofs are in proofs/Claims.antt.
+-- What document 01 says of E's argument: of an accepted fault it is never positive. `exponents` (fault_current/specs/Current) lists every argument. The proofs are in proofs/Claims.antt.
 use Prim.Native.Nat.{ℕ, _<_, _≤_}
 use mathlib.Core.Path.{_≡_}
 use mathlib.Core.Bool.{Bool, true, _&&_}

@@ -198,7 +198,7 @@ refused-are
 unfolding advancedFaultRun answerOf memoryOf faultRunRefused startedFaultRun blankFaultRun faultRefusal first broken tooManyParts timeOutside tooManySteps stationOutside cableOutside breakerOutside topologyOk stationOk cableOk breakerTypeOk breakerOk faultOk realIn wholeIn stepsOf roundedUp run variables answer numbers fault grid station whole blank maxOf isNan le lt eq ofInt ofBits round div
 refused-are = (refl, refl, refl, refl, refl)
 
--- beside a refusal: zeros and no
+-- beside a refusal: all zero and false
 blank-is
     : (faultFigures blankFaultRun ≡ record { «peak_fault_current_ka» = whole 0; «fault_clearing_time_ms» = whole 0; «energy_dissipated_mj» = whole 0; «voltage_recovery_time_ms» = whole 0; «max_di_dt» = whole 0; «fault_cleared» = false })
     × (blankFaultRun .«steps_made» ≡ 0)

@@ -1,4 +1,8 @@
+-- The claims of specs/Claims, proved
 pub mod Claims
+-- An advance of a fault run is refused by 11 exactly where 01 says so, and then changes nothing
 pub mod Refusals
+-- The claims hold of what the contracts of `fault_runs` and `fault_start` promise
 pub mod Tied
+-- Worked examples of the definitions
 mod Controls

@@ -1,1 +1,2 @@
+-- Every list of advance calls of a fault run, and its refusals by 11
 pub mod Claims

@@ -1,1 +1,2 @@
+-- What a reader expects of positions beside the definitions
 pub mod Claims

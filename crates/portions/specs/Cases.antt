@@ -10,13 +10,13 @@ pub record Cases (A : Type 0) : Type 1 where
   pub Case : Type 0
   pub N : ℕ
   pub cases : ℕ
-  -- case number, as before its first step
+  -- the initial state of a case, by its number
   pub start : ℕ → Case
   -- case number, number of the step
   pub step : ℕ → ℕ → Case → Case
   -- its row after the last step, if it has one
   pub row : ℕ → Case → Option (List A)
-  -- zeros and no: where no case is left
+  -- where no case is left: all zero and false
   pub zeros : Case
 
 -- "the case number, the steps made in the open case and that case after the last of them"

@@ -1,1 +1,2 @@
+-- What a record holds, and when it is written
 pub mod Records

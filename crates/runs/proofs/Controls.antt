@@ -1,4 +1,4 @@
--- Worked examples of what stands beside a refusal: zeros and no, in arrays of 32, 64 and 32. Written by hand.
+-- Worked examples of what stands beside a refusal: all zero and false, in arrays of 32, 64 and 32. Written by hand.
 use mathlib.Core.Path.{_≡_, refl}
 use lib.ListN.{length, replicate}
 use lib.Ieee.{ofBits, round}

@@ -1,4 +1,4 @@
-// What a switching run works out once, and its variables as before the loop in 000's simulate_switching.
+// What a switching run works out once, and the initial values of its variables.
 mod plan;
 mod variables;
 

@@ -1,1 +1,2 @@
+-- Every list of advance calls of a switching run, and its refusals by 11
 pub mod Claims

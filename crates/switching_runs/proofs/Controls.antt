@@ -57,7 +57,7 @@ switching-are
 unfolding answerOf memoryOf joined advance switchingRunRefused startedSwitchingRun switchingRecords nextSwitchingRun recordWith tab padded over beforeSwitching switchingAfter switchingBody switchBody operatedState derivatives ahead blended rk4 raised newState stepBy ownCapacitance joinedCapacitance switchingRefusal first broken tooManyParts timeOutside tooManySteps stationOutside cableOutside breakerOutside topologyOk stationOk cableOk breakerTypeOk breakerOk realIn wholeIn stepsOf roundedUp alone numbers station whole blank maxOf isNan le lt eq ofInt ofBits round neg add sub mul div
 switching-are = (refl, refl, refl)
 
--- beside a refusal: zeros and no
+-- beside a refusal: all zero and false
 blank-is
     : (blankSwitchingRun .«breaker_id» ≡ 0)
     × (blankSwitchingRun .«open» ≡ false)

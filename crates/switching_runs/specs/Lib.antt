@@ -1,1 +1,2 @@
+-- Switching runs in portions, document 01.8
 pub mod SwitchingRuns

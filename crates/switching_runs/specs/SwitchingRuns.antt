@@ -53,7 +53,7 @@ switchingStepper =
 
 -- ---- what the functions return
 
--- beside a refusal: zeros and no
+-- beside a refusal: all zero and false
 unfoldable pub blankSwitchingRun : SwitchingRun
 blankSwitchingRun =
     record { grid = blankGrid; «breaker_id» = 0; «open» = false; «steps_made» = 0; variables = record { state = blankState; switched = false } }

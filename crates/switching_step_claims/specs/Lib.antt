@@ -1,1 +1,2 @@
+-- What a reader expects beside the definitions
 pub mod Claims

@@ -1,4 +1,4 @@
--- `exp` meets its contract. Each loop's invariant: what is left to do gives what all of it gives. Assumes nothing.
+-- `exp` meets its contract. Each loop's invariant: the turns still to be made give the answer of the whole loop. Assumes nothing.
 use mathlib.Core.Path.{_≡_, refl, sym, ap, _∙_}
 use Prim.Native.Nat.{_≤_, _^_}
 use native.Mathlib.Omega.{arith}
