@@ -13,6 +13,9 @@ const USAGE: &str = "\
 sheet_speed PROGRAM [ROUNDS [NAME..]]   times PROGRAM on its sheets, or those of the names, beside sheet_sweep
 sheet_speed PROGRAM growth              times PROGRAM alone on sheets that grow in steps, in cables and in breakers";
 
+/// There is no further round of a sheet when the Rust's have taken so many of the processor's seconds.
+const ENOUGH: f64 = 20.0;
+
 /// A sheet that is timed: tenths 1 to 10 of each cable, in steps of a microsecond.
 struct Timed {
     name: &'static str,
@@ -264,9 +267,14 @@ fn main() {
         }
         let text = sheet.text();
         let [mut best, mut right] = [Seconds::MOST; 2];
+        let mut worked = 0.0;
         for _ in 0..rounds {
+            if worked > ENOUGH {
+                break;
+            }
             let (expected, b) = run(&own, &text);
             right = right.or(b);
+            worked += b.processor;
             // Ours is short: a few rounds for each of the other's.
             for _ in 0..5 {
                 let (listing, a) = run(&program, &text);
