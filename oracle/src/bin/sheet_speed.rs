@@ -229,15 +229,15 @@ fn growth(program: &PathBuf) {
     sheets.extend([1, 4, 16, 64].map(|cables| sheet([32, cables, 32], 1_000)));
     sheets.extend([0, 1, 8, 32].map(|breakers| sheet([32, 64, breakers], 1_000)));
     println!(
-        "{:>8} {:>6} {:>8} {:>10} {:>12} {:>14}",
-        "stations", "cables", "breakers", "steps", "sweep, ms", "processor, ms"
+        "{:>8} {:>6} {:>8} {:>10} {:>12} {:>15}",
+        "stations", "cables", "breakers", "steps", "sweep, ms", "sweep, proc. ms"
     );
     for sheet in sheets {
         let text = sheet.text();
         let best = (0..15).map(|_| run(program, &text).1).fold(Seconds::MOST, Seconds::or);
         let [n, cables, breakers] = sheet.counts;
         println!(
-            "{n:>8} {cables:>6} {breakers:>8} {:>10} {:>12.2} {:>14.2}",
+            "{n:>8} {cables:>6} {breakers:>8} {:>10} {:>12.2} {:>15.2}",
             sheet.steps,
             best.clock * 1e3,
             best.processor * 1e3
@@ -258,8 +258,15 @@ fn main() {
     let names = words.get(2..).unwrap_or_default();
     let own = env::current_exe().expect("it has a path").with_file_name("sheet_sweep");
     println!(
-        "{:<15} {:>14} {:>10} {:>10} {:>13} {:>12} {:>12} {:>17}",
-        "sheet", "cases x steps", "sweep, ms", "Rust, ms", "times (clock)", "sweep, ms", "Rust, ms", "times (processor)"
+        "{:<15} {:>14} {:>10} {:>10} {:>12} {:>15} {:>14} {:>17}",
+        "sheet",
+        "cases x steps",
+        "sweep, ms",
+        "Rust, ms",
+        "times (wall)",
+        "sweep, proc. ms",
+        "Rust, proc. ms",
+        "times (processor)"
     );
     for sheet in SHEETS {
         if !names.is_empty() && !names.iter().any(|name| name == sheet.name) {
@@ -287,7 +294,7 @@ fn main() {
         }
         let size = format!("{} x {}", sheet.counts[1] * 30, sheet.steps);
         println!(
-            "{:<15} {:>14} {:>10.2} {:>10.1} {:>13.1} {:>12.2} {:>12.1} {:>17.1}",
+            "{:<15} {:>14} {:>10.2} {:>10.1} {:>12.1} {:>15.2} {:>14.1} {:>17.1}",
             sheet.name,
             size,
             best.clock * 1e3,
