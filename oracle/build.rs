@@ -212,17 +212,38 @@ fn with_pieces(hooks: &str, module: &str) -> String {
     text
 }
 
-const MISSING: &str = "The published module belongs in ../shared/docs/src beside the repository, or in the folder that WENGLUI_SOURCE names, as src/network/dc_switching.rs";
+/// Where the published Rust is looked for if `WENGLUI_SOURCE` names no folder: beside the repository.
+const FOLDER: &str = "shared/docs/src";
+
+/// In that folder.
+const PUBLISHED: &str = "src/network/dc_switching.rs";
+
+/// Ends the build with plain words, since there is nothing to compare with.
+fn missing(folder: &Path, named: bool, error: std::io::Error) -> ! {
+    let by = if named {
+        "the folder that WENGLUI_SOURCE names"
+    } else {
+        "the folder ../shared/docs/src beside the repository"
+    };
+    eprintln!("The oracle is built from the published Rust, the file {PUBLISHED} in {by}.");
+    eprintln!("It cannot be read there: {}: {error}", folder.join(PUBLISHED).display());
+    eprintln!("If it is in another folder, name that one, by its whole path, in the environment variable WENGLUI_SOURCE.");
+    std::process::exit(1)
+}
 
 fn main() {
     println!("cargo:rerun-if-env-changed=WENGLUI_SOURCE");
-    let folder = env::var("WENGLUI_SOURCE").unwrap_or("../../shared/docs/src".to_string());
-    let source = Path::new(&folder).join("src/network/dc_switching.rs");
+    let named = env::var("WENGLUI_SOURCE").ok();
+    let own = env::current_dir().expect("cargo names a folder");
+    let folder = match &named {
+        Some(folder) => own.join(folder),
+        None => own.ancestors().nth(2).expect("a repository in a folder").join(FOLDER),
+    };
+    let source = folder.join(PUBLISHED);
     println!("cargo:rerun-if-changed={}", source.display());
     println!("cargo:rerun-if-changed={HOOKS}");
     println!("cargo:rerun-if-changed=build.rs");
-    let published =
-        fs::read_to_string(&source).unwrap_or_else(|e| panic!("{}: {e}. {MISSING}", source.display()));
+    let published = fs::read_to_string(&source).unwrap_or_else(|e| missing(&folder, named.is_some(), e));
     let hooks = fs::read_to_string(HOOKS).unwrap_or_else(|e| panic!("{HOOKS}: {e}"));
 
     // A file of its own, since a text that begins with comments on its module cannot be included.

@@ -1,9 +1,11 @@
 //! The reference that the library is compared with: document 000 as it was published, with E, S and C for `exp`, `sin` and
 //! `cos` (`build.rs`), document 01's rules, and the jobs of the replay bench answered by them.
 
+pub mod cut;
 pub mod draw;
 pub mod grids;
 pub mod jobs;
+pub mod names;
 pub mod numbers;
 pub mod plan;
 pub mod rules;

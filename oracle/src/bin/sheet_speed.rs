@@ -1,6 +1,7 @@
 //! Times the program `sweep` on sheets of some sizes beside `sheet_sweep`, which runs the published fault run for each case: from the start of
-//! each process to its end, the best of some rounds in turns. Their listings must be the same.
+//! each process to its end, the best of some rounds in turns, by the clock and by the processor's time. Their listings must be the same.
 
+use std::ffi::{c_int, c_long};
 use std::fmt::Write as _;
 use std::io::Write as _;
 use std::path::PathBuf;
@@ -12,6 +13,9 @@ const USAGE: &str = "\
 sheet_speed PROGRAM [ROUNDS [NAME..]]   times PROGRAM on its sheets, or those of the names, beside sheet_sweep
 sheet_speed PROGRAM growth              times PROGRAM alone on sheets that grow in steps, in cables and in breakers";
 
+/// There is no further round of a sheet when the Rust's have taken so many of the processor's seconds.
+const ENOUGH: f64 = 20.0;
+
 /// A sheet that is timed: tenths 1 to 10 of each cable, in steps of a microsecond.
 struct Timed {
     name: &'static str,
@@ -20,39 +24,54 @@ struct Timed {
     steps: u64,
     /// Of the fault.
     ohms: &'static str,
-    clearing_ms: &'static str,
+    breakers: Breakers,
 }
 
-const NEVER_MS: &str = "10000";
+/// Of the breakers of a sheet the kind and two times: in ms, and of a hybrid one in µs too.
+type Breakers = [&'static str; 3];
 
-const SHEETS: [Timed; 8] = [
+/// Mechanical, and slower than any case.
+const NEVER: Breakers = ["0", "10000", "0"];
+/// Mechanical, 100 steps.
+const EARLY: Breakers = ["0", "0.1", "0"];
+/// 250 µs and 0.3 of 10 ms: 3,250 steps.
+const HYBRID: Breakers = ["2", "10", "250"];
+
+const SHEETS: [Timed; 9] = [
     Timed {
         name: "pair",
         counts: [2, 1, 2],
         steps: 200_000,
         ohms: "0.1",
-        clearing_ms: NEVER_MS,
+        breakers: HYBRID,
+    },
+    Timed {
+        name: "pair-late",
+        counts: [2, 1, 2],
+        steps: 200_000,
+        ohms: "0.1",
+        breakers: NEVER,
     },
     Timed {
         name: "planner",
         counts: [12, 16, 12],
         steps: 25_000,
         ohms: "0.1",
-        clearing_ms: "0.1",
+        breakers: EARLY,
     },
     Timed {
         name: "planner-late",
         counts: [12, 16, 12],
         steps: 5_000,
         ohms: "0.1",
-        clearing_ms: NEVER_MS,
+        breakers: NEVER,
     },
     Timed {
         name: "full",
         counts: [32, 64, 32],
         steps: 1_000,
         ohms: "0.1",
-        clearing_ms: NEVER_MS,
+        breakers: NEVER,
     },
     // The three before with 10 ohms: it takes tens to hundreds of steps until one is detected, and at times none is.
     Timed {
@@ -60,28 +79,28 @@ const SHEETS: [Timed; 8] = [
         counts: [12, 16, 12],
         steps: 25_000,
         ohms: "10",
-        clearing_ms: "0.1",
+        breakers: EARLY,
     },
     Timed {
         name: "planner-late-10",
         counts: [12, 16, 12],
         steps: 5_000,
         ohms: "10",
-        clearing_ms: NEVER_MS,
+        breakers: NEVER,
     },
     Timed {
         name: "full-10",
         counts: [32, 64, 32],
         steps: 1_000,
         ohms: "10",
-        clearing_ms: NEVER_MS,
+        breakers: NEVER,
     },
     Timed {
         name: "weak",
         counts: [12, 16, 12],
         steps: 5_000,
         ohms: "1000000",
-        clearing_ms: NEVER_MS,
+        breakers: NEVER,
     },
 ];
 
@@ -108,8 +127,9 @@ impl Timed {
             line(&mut text, 'C', &fields);
         }
         for k in 0..breakers {
-            let mut fields = [k, k, 0].map(|x| x.to_string()).to_vec();
-            fields.extend([self.clearing_ms, "0", "16", "10"].map(String::from));
+            let [kind, time, second] = self.breakers;
+            let mut fields = [k, k].map(|x| x.to_string()).to_vec();
+            fields.extend([kind, time, second, "16", "10"].map(String::from));
             line(&mut text, 'B', &fields);
         }
         text
@@ -129,8 +149,55 @@ fn ms(us: u64) -> String {
     format!("{}.{:03}", us / 1000, us % 1000)
 }
 
-/// What a program prints for a sheet, and its seconds.
-fn run(program: &PathBuf, sheet: &str) -> (Vec<u8>, f64) {
+/// Seconds from the start of a process to its end, and those that a processor worked for it.
+#[derive(Clone, Copy)]
+struct Seconds {
+    clock: f64,
+    processor: f64,
+}
+
+impl Seconds {
+    const MOST: Seconds = Seconds {
+        clock: f64::MAX,
+        processor: f64::MAX,
+    };
+
+    /// The better of both, each by itself.
+    fn or(self, other: Seconds) -> Seconds {
+        Seconds {
+            clock: self.clock.min(other.clock),
+            processor: self.processor.min(other.processor),
+        }
+    }
+}
+
+/// What `getrusage` fills: the time in user mode and in the kernel, each in seconds and microseconds, and counts that are not looked at.
+#[repr(C)]
+#[derive(Default)]
+struct Usage {
+    user: [c_long; 2],
+    kernel: [c_long; 2],
+    counts: [c_long; 14],
+}
+
+extern "C" {
+    fn getrusage(who: c_int, usage: *mut Usage) -> c_int;
+}
+
+/// The processor's seconds of all processes that were started here and have ended.
+fn of_children() -> f64 {
+    const CHILDREN: c_int = -1;
+    let mut usage = Usage::default();
+    // SAFETY: on 64-bit Linux `Usage` has the form that is filled.
+    let failed = unsafe { getrusage(CHILDREN, &mut usage) };
+    assert_eq!(failed, 0, "no processor times");
+    let seconds = |[s, us]: [c_long; 2]| s as f64 + us as f64 / 1e6;
+    seconds(usage.user) + seconds(usage.kernel)
+}
+
+/// What a program prints for a sheet, and its seconds. One process runs at a time.
+fn run(program: &PathBuf, sheet: &str) -> (Vec<u8>, Seconds) {
+    let before = of_children();
     let began = Instant::now();
     let mut child = Command::new(program)
         .stdin(Stdio::piped())
@@ -142,9 +209,10 @@ fn run(program: &PathBuf, sheet: &str) -> (Vec<u8>, f64) {
     let bytes = sheet.as_bytes().to_vec();
     let writer = thread::spawn(move || input.write_all(&bytes));
     let output = child.wait_with_output().expect("the program ends");
-    let took = began.elapsed().as_secs_f64();
+    let clock = began.elapsed().as_secs_f64();
+    let processor = of_children() - before;
     writer.join().expect("it ends").expect("the program reads its input");
-    (output.stdout, took)
+    (output.stdout, Seconds { clock, processor })
 }
 
 /// How the time of a program grows, one size at a time.
@@ -154,18 +222,26 @@ fn growth(program: &PathBuf) {
         counts,
         steps,
         ohms: "0.1",
-        clearing_ms: NEVER_MS,
+        breakers: NEVER,
     };
     let mut sheets = Vec::new();
     sheets.extend([1_000, 10_000, 100_000, 1_000_000].map(|steps| sheet([2, 1, 2], steps)));
     sheets.extend([1, 4, 16, 64].map(|cables| sheet([32, cables, 32], 1_000)));
     sheets.extend([0, 1, 8, 32].map(|breakers| sheet([32, 64, breakers], 1_000)));
-    println!("{:>8} {:>6} {:>8} {:>10} {:>12}", "stations", "cables", "breakers", "steps", "sweep, ms");
+    println!(
+        "{:>8} {:>6} {:>8} {:>10} {:>12} {:>15}",
+        "stations", "cables", "breakers", "steps", "sweep, ms", "sweep, proc. ms"
+    );
     for sheet in sheets {
         let text = sheet.text();
-        let best = (0..15).map(|_| run(program, &text).1).fold(f64::MAX, f64::min);
+        let best = (0..15).map(|_| run(program, &text).1).fold(Seconds::MOST, Seconds::or);
         let [n, cables, breakers] = sheet.counts;
-        println!("{n:>8} {cables:>6} {breakers:>8} {:>10} {:>12.2}", sheet.steps, best * 1e3);
+        println!(
+            "{n:>8} {cables:>6} {breakers:>8} {:>10} {:>12.2} {:>15.2}",
+            sheet.steps,
+            best.clock * 1e3,
+            best.processor * 1e3
+        );
     }
 }
 
@@ -181,16 +257,31 @@ fn main() {
     let rounds = words.get(1).map_or(3, |w| w.parse().unwrap_or(3)).max(1);
     let names = words.get(2..).unwrap_or_default();
     let own = env::current_exe().expect("it has a path").with_file_name("sheet_sweep");
-    println!("{:<15} {:>14} {:>12} {:>12} {:>8}", "sheet", "cases x steps", "sweep, ms", "Rust, ms", "times");
+    println!(
+        "{:<15} {:>14} {:>10} {:>10} {:>12} {:>15} {:>14} {:>17}",
+        "sheet",
+        "cases x steps",
+        "sweep, ms",
+        "Rust, ms",
+        "times (wall)",
+        "sweep, proc. ms",
+        "Rust, proc. ms",
+        "times (processor)"
+    );
     for sheet in SHEETS {
         if !names.is_empty() && !names.iter().any(|name| name == sheet.name) {
             continue;
         }
         let text = sheet.text();
-        let (mut best, mut right) = (f64::MAX, f64::MAX);
+        let [mut best, mut right] = [Seconds::MOST; 2];
+        let mut worked = 0.0;
         for _ in 0..rounds {
+            if worked > ENOUGH {
+                break;
+            }
             let (expected, b) = run(&own, &text);
-            right = right.min(b);
+            right = right.or(b);
+            worked += b.processor;
             // Ours is short: a few rounds for each of the other's.
             for _ in 0..5 {
                 let (listing, a) = run(&program, &text);
@@ -198,10 +289,20 @@ fn main() {
                     println!("{}: the listings differ", sheet.name);
                     exit(1);
                 }
-                best = best.min(a);
+                best = best.or(a);
             }
         }
         let size = format!("{} x {}", sheet.counts[1] * 30, sheet.steps);
-        println!("{:<15} {:>14} {:>12.2} {:>12.1} {:>8.1}", sheet.name, size, best * 1e3, right * 1e3, right / best);
+        println!(
+            "{:<15} {:>14} {:>10.2} {:>10.1} {:>12.1} {:>15.2} {:>14.1} {:>17.1}",
+            sheet.name,
+            size,
+            best.clock * 1e3,
+            right.clock * 1e3,
+            right.clock / best.clock,
+            best.processor * 1e3,
+            right.processor * 1e3,
+            right.processor / best.processor
+        );
     }
 }
