@@ -5,9 +5,9 @@ use mathlib.Core.Path.{_≡_, refl}
 use mathlib.Core.List.{foldl}
 use lib.Dec.{eqb}
 use lib.Ieee.{Float, binary64, ofBits, round, add, mul, div}
-use Rattle.float64.specs.Constants.{decimal}
+use Rattle.float64.specs.Constants.{decimal, kilo}
 use Rattle.float64.specs.Choice.{minOf}
-use Rattle.timing.specs.Steps.{k1000, durationMs}
+use Rattle.timing.specs.Steps.{durationMs}
 use Rattle.grid.specs.Simulator.{breakersOf}
 use Rattle.grid.specs.declared.parts.DcBreakerType.{DcBreakerType}
 use Rattle.grid.specs.declared.parts.DcBreakerType.the-variants.{Mechanical, SolidState, HybridBreaker}
@@ -28,8 +28,8 @@ constants-are = (refl, refl)
 -- opening; turn-off/1000; commutation/1000 + opening·0.3
 unfoldable pub clearingTimeOf : DcBreakerType → Float
 clearingTimeOf (Mechanical opening) = opening
-clearingTimeOf (SolidState turnOff loss) = div binary64 turnOff k1000
-clearingTimeOf (HybridBreaker opening commutation) = add binary64 (div binary64 commutation k1000) (mul binary64 opening k03)
+clearingTimeOf (SolidState turnOff loss) = div binary64 turnOff kilo
+clearingTimeOf (HybridBreaker opening commutation) = add binary64 (div binary64 commutation kilo) (mul binary64 opening k03)
 
 abbrev pub timeOf : DcBreaker → Float
 timeOf b = clearingTimeOf (b .«breaker_type»)

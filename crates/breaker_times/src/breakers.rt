@@ -5,6 +5,7 @@ ghost use lib.Ieee.{lt};
 ghost use Rattle.breaker_times.specs.Breakers.{clearingTimeOf, fastestOf};
 use grid::DcBreakerType;
 use grid::DcSwitchingSimulator;
+use grid::MOST_BREAKERS;
 use grid::present;
 use timing::duration_ms;
 
@@ -29,7 +30,7 @@ pub fn breaker_clearing_time_ms(breaker_type: DcBreakerType) -> f64
 pub fn fastest_breaker_clearing_ms(g: DcSwitchingSimulator) -> f64
     ensures { λ r. ⌜ r ≡ fastestOf g ⌝ }
 {
-    let n = present(g.n_breakers, 32);
+    let n = present(g.n_breakers, MOST_BREAKERS);
     if n == 0 {
         return duration_ms(g);
     }

@@ -8,7 +8,7 @@ use Rattle.grid.specs.declared.parts.DcFaultEvent.{DcFaultEvent}
 use Rattle.grid.specs.declared.simulator.DcSwitchingSimulator.{DcSwitchingSimulator}
 use Rattle.detection.specs.Detection.{detected}
 use Rattle.fault_plan.specs.declared.variables.FaultVariables.{FaultVariables}
-use Rattle.fault_plan.specs.Fault.{faultBody, beforeLoop}
+use Rattle.fault_plan.specs.Fault.{faultBody, freshVariables, beforeLoop}
 use Rattle.runs.specs.Blank.{blankState}
 use Rattle.case_reasons.specs.declared.reasons.CaseOutcome.{CaseOutcome}
 use Rattle.case_steps.specs.declared.open_case.OpenCase.{OpenCase}
@@ -19,23 +19,7 @@ startCase g = record { variables = beforeLoop g; detected = false; «clearing_cu
 
 -- "or no case is left (all of these zeros and no)"
 abbrev pub noCase : OpenCase
-noCase =
-    record {
-      variables =
-          record {
-            state = blankState;
-            «peak_fault_ka» = nought;
-            «max_di_dt» = nought;
-            «energy_mj» = nought;
-            «fault_cleared» = false;
-            «clearing_time_ms» = nought;
-            «voltage_recovery_time_ms» = nought;
-            «prev_fault_current_ka» = nought;
-            «fault_active» = false;
-          };
-      detected = false;
-      «clearing_current_ka» = nought;
-    }
+noCase = record { variables = freshVariables blankState nought; detected = false; «clearing_current_ka» = nought }
 
 -- what the reasons and the row are read from
 abbrev pub outcomeIn : OpenCase → CaseOutcome

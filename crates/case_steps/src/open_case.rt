@@ -4,6 +4,7 @@ ghost use Rattle.case_steps.specs.OpenCases.{startCase, noCase, outcomeI
 use case_reasons::CaseOutcome;
 use fault_plan::FaultVariables;
 use fault_plan::first_fault_variables;
+use fault_plan::fresh_variables;
 use grid::DcSwitchingSimulator;
 use runs::blank_state;
 
@@ -32,19 +33,8 @@ pub fn first_open_case(g: DcSwitchingSimulator) -> OpenCase
 pub fn no_open_case() -> OpenCase
     ensures { λ r. ⌜ r ≡ noCase ⌝ }
 {
-    let variables = FaultVariables {
-        state: blank_state(),
-        peak_fault_ka: 0.0,
-        max_di_dt: 0.0,
-        energy_mj: 0.0,
-        fault_cleared: false,
-        clearing_time_ms: 0.0,
-        voltage_recovery_time_ms: 0.0,
-        prev_fault_current_ka: 0.0,
-        fault_active: false,
-    };
     OpenCase {
-        variables,
+        variables: fresh_variables(blank_state(), 0.0),
         detected: false,
         clearing_current_ka: 0.0,
     }

@@ -6,8 +6,8 @@ use contract.Lifetimes.{Lfts}
 use borrow.Fn.World.{ArgsD, ResD}
 use borrow.Fn.Kinds.{endedOf}
 use denote.Triple.Clauses.{AtExit}
-use Rattle.grid.specs.Simulator.{cablesOf}
-use Rattle.conductances.specs.Conductances.{entry, cell, stationCount}
+use Rattle.grid.specs.Simulator.{cablesOf, stationCount}
+use Rattle.conductances.specs.Conductances.{entry, cell}
 use Rattle.conductance_claims.proofs.Claims.{matrix-claims}
 use Rattle.conductances.proofs.conductances_of as matrix-contract
 use Rattle.conductances.proofs.conductances_of.Kinds as matrix-kinds
@@ -15,5 +15,5 @@ use Rattle.conductances.proofs.conductances_of.Reads as matrix-reads
 
 module _ (κs : Lfts 0) (a : ArgsD matrix-contract.signature κs) (r : ResD matrix-contract.signature κs) (e : AtExit (endedOf 0 matrix-kinds.ps matrix-kinds.r) κs) where
   module _ (h : matrix-reads.Learnt κs a r e) (i j : ℕ) (li : i < 32) (lj : j < 32) where
-    pub matrix-placed : cell r i j ≡ entry (stationCount (a .0)) (cablesOf (a .0)) i j
-    matrix-placed = rw h (matrix-claims .placed (stationCount (a .0)) i j (cablesOf (a .0)) li lj)
+    pub matrix-placed : cell r i j ≡ entry (stationCount (a .0 .«n_stations»)) (cablesOf (a .0)) i j
+    matrix-placed = rw h (matrix-claims .placed (stationCount (a .0 .«n_stations»)) i j (cablesOf (a .0)) li lj)

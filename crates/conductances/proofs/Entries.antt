@@ -18,8 +18,8 @@ use Rattle.lists.proofs.Scanning.{and-second, take-cut}
 use Rattle.float64.specs.Constants.{nought}
 use Rattle.grid.specs.declared.parts.DcCable.{DcCable}
 use Rattle.grid.specs.declared.simulator.DcSwitchingSimulator.{DcSwitchingSimulator}
-use Rattle.grid.specs.Simulator.{cablesOf}
-use Rattle.conductances.specs.Conductances.{at, more, less, joining, joined, conductance, entry, place, cell, stored, eachEntry, matrix, stationCount, conductancesOf}
+use Rattle.grid.specs.Simulator.{cablesOf, stationCount}
+use Rattle.conductances.specs.Conductances.{at, more, less, joining, joined, conductance, entry, place, cell, stored, eachEntry, matrix, conductancesOf}
 use Rattle.conductances.specs.Symmetric.{Symmetric}
 
 -- ---- places
@@ -143,5 +143,5 @@ matrix-symmetric n cables l i j li lj =
 pub of-grid : (g : DcSwitchingSimulator) {n k : ℕ} → length (g .cables) ≡ 64 → n ≡ min (g .«n_stations») 32 → k ≡ min (g .«n_cables») 64 → matrix n (take k (g .cables)) ≡ conductancesOf g
 of-grid g {n} {k} long n-is k-is = rw (n-is, take-cut (g .cables) (g .«n_cables») 64 k long k-is)
 
-pub of-grid-symmetric : (g : DcSwitchingSimulator) → Symmetric (stationCount g) (conductancesOf g)
-of-grid-symmetric g = matrix-symmetric (stationCount g) (cablesOf g) (omega arith)
+pub of-grid-symmetric : (g : DcSwitchingSimulator) → Symmetric (stationCount (g .«n_stations»)) (conductancesOf g)
+of-grid-symmetric g = matrix-symmetric (stationCount (g .«n_stations»)) (cablesOf g) (omega arith)

@@ -1,5 +1,5 @@
 -- The conductance matrix of document 01.2, entry by entry. Definitions only.
-use Prim.Native.Nat.{ℕ, _+_, _*_, _/_, _%_, min}
+use Prim.Native.Nat.{ℕ, _+_, _*_, _/_, _%_}
 use mathlib.Core.Bool.{Bool, _&&_, cond}
 use mathlib.Core.List.{List, foldl}
 use lib.Dec.{eqb, ltb}
@@ -11,7 +11,7 @@ use Rattle.float64.specs.Arithmetic.{_⊕_, _⊖_, _⊘_}
 use Rattle.grid.specs.declared.parts.DcCable.{DcCable}
 use Rattle.grid.specs.declared.simulator.DcSwitchingSimulator.{DcSwitchingSimulator}
 use Rattle.grid.specs.Cables.{resistance}
-use Rattle.grid.specs.Simulator.{cablesOf}
+use Rattle.grid.specs.Simulator.{cablesOf, stationCount}
 
 abbrev pub conductance : DcCable → Float
 conductance c = one ⊘ resistance c
@@ -59,9 +59,5 @@ eachEntry h m = tab (length m) (λ k. h (k / 32) (k % 32) (getD m k nan))
 unfoldable pub matrix : ℕ → List DcCable → List Float
 matrix n cables = tab 1024 (λ k. entry n cables (k / 32) (k % 32))
 
--- how many stations a grid has: a count past the array takes all of it
-abbrev pub stationCount : DcSwitchingSimulator → ℕ
-stationCount g = min (g .«n_stations») 32
-
 abbrev pub conductancesOf : DcSwitchingSimulator → List Float
-conductancesOf g = matrix (stationCount g) (cablesOf g)
+conductancesOf g = matrix (stationCount (g .«n_stations»)) (cablesOf g)

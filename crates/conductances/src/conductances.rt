@@ -7,6 +7,8 @@ ghost use Rattle.float64.specs.Constants.{nought};
 ghost use Rattle.conductances.specs.Conductances.{more, less, joining, joined, stored, eachEntry, matrix, conductancesOf};
 use grid::DcCable;
 use grid::DcSwitchingSimulator;
+use grid::MOST_CABLES;
+use grid::MOST_STATIONS;
 use grid::cable_resistance;
 use grid::present;
 
@@ -14,8 +16,8 @@ use grid::present;
 pub fn conductances_of(g: DcSwitchingSimulator) -> [f64; 1024]
     ensures { λ r. ⌜ r ≡ conductancesOf g ⌝ }
 {
-    let n = present(g.n_stations, 32);
-    let n_cables = present(g.n_cables, 64);
+    let n = present(g.n_stations, MOST_STATIONS);
+    let n_cables = present(g.n_cables, MOST_CABLES);
     let cables = g.cables;
     let mut m = [0.0; 1024];
     conductances(&mut m, cables, n_cables, n);
@@ -23,7 +25,7 @@ pub fn conductances_of(g: DcSwitchingSimulator) -> [f64; 1024]
 }
 
 // Into zeros, cable after cable, so that each entry is added up in the cables' order.
-fn conductances(m: &mut [f64; 1024], cables: [DcCable; 64], n_cables: usize, n: usize)
+fn conductances(m: &mut [f64; 1024], cables: [DcCable; MOST_CABLES], n_cables: usize, n: usize)
     requires { ⌜ («n_cables» ≤ 64) × (n ≤ 32) × (m .now ≡ blank 1024 nought) ⌝ }
     ensures { λ _. ⌜ now (m .exit) ≡ matrix n (take «n_cables» cables) ⌝ }
 {
@@ -64,7 +66,7 @@ fn add_to(m: &mut [f64; 1024], row: usize, column: usize, g: f64)
     requires { ⌜ (row < 32) × (column < 32) ⌝ }
     ensures { λ _. ⌜ now (m .exit) ≡ stored (more g) row column (now (m .entry)) ⌝ }
 {
-    let k = row * 32 + column;
+    let k = row * MOST_STATIONS + column;
     m[k] = m[k] + g;
 }
 
@@ -72,6 +74,6 @@ fn take_from(m: &mut [f64; 1024], row: usize, column: usize, g: f64)
     requires { ⌜ (row < 32) × (column < 32) ⌝ }
     ensures { λ _. ⌜ now (m .exit) ≡ stored (less g) row column (now (m .entry)) ⌝ }
 {
-    let k = row * 32 + column;
+    let k = row * MOST_STATIONS + column;
     m[k] = m[k] - g;
 }

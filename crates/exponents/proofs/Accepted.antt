@@ -10,6 +10,7 @@ use lib.ListN.{getD}
 use lib.Ieee.{binary64, ofBits, ofInt, round, lt, le, eq}
 use Rattle.lists.specs.Scans.{every}
 use Rattle.lists.proofs.Scanning.{left, right, passed}
+use Rattle.float64.specs.Constants.{kilo}
 use Rattle.float64.proofs.Choosing.{max-holds}
 use Rattle.float64.proofs.Range.{UpTo, from-range, rounded, times, over}
 use Rattle.ranges.specs.Ranges as range
@@ -19,7 +20,7 @@ use Rattle.grid.specs.declared.parts.DcFaultEvent.{DcFaultEvent}
 use Rattle.grid.specs.declared.parts.SweepOrder.{SweepOrder}
 use Rattle.grid.specs.declared.simulator.DcSwitchingSimulator.{DcSwitchingSimulator}
 use Rattle.ranges.proofs.InRange.{in-range, range-in}
-use Rattle.timing.specs.Steps.{timeOfStep, k1000, timeStepMs, stepsOf}
+use Rattle.timing.specs.Steps.{timeOfStep, timeStepMs, stepsOf}
 use Rattle.timing.specs.Claims.{Steps}
 use Rattle.part_checks.specs.PartChecks.{stationOk, cableOk, faultOk, orderOk}
 use Rattle.rule_tests.specs.Rules.{timeOutside, stationOutside, cableOutside}
@@ -87,7 +88,7 @@ module _ (g : DcSwitchingSimulator) (f : DcFaultEvent) (h : InRanges g f) where
   step-ms : UpTo 1000 (timeStepMs g)
   unfolding ofBits ofInt round le lt eq
   step-ms =
-      over 1000 1000 _ k1000 (omega arith) tt (lit≤ tt)
+      over 1000 1000 _ kilo (omega arith) tt (lit≤ tt)
       (max-holds (UpTo 1000000) (g .«dt_us») leastTimeStep (in-range 1000000 (omega arith) (g .«dt_us») (h .time-step)) (from-range 1000000 (omega arith) leastTimeStep tt tt))
 
   pub step-time : (k : ℕ) → k < stepsOf g → isTime (timeOfStep g k) ≡ true

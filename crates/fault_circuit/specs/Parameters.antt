@@ -1,12 +1,12 @@
 -- 000's `fault_rlc_params`, a line to a definition. Definitions only.
-use Prim.Native.Nat.{ℕ, min}
+use Prim.Native.Nat.{ℕ}
 use lib.ListN.{getD}
 use lib.Ieee.{Float}
 use Rattle.float64.specs.Constants.{nought, one}
 use Rattle.float64.specs.Arithmetic.{_⊕_, _⊗_, sumOf}
 use Rattle.float64.specs.Choice.{maxOf, clampOf}
 use Rattle.grid.specs.Cables.{cut}
-use Rattle.grid.specs.Simulator.{blankStation, blankCable}
+use Rattle.grid.specs.Simulator.{blankStation, blankCable, stationCount, cableCount}
 use Rattle.grid.specs.declared.parts.ConverterStation.{ConverterStation}
 use Rattle.grid.specs.declared.parts.DcCable.{DcCable}
 use Rattle.grid.specs.declared.parts.DcFaultEvent.{DcFaultEvent}
@@ -16,10 +16,10 @@ use Rattle.fault_circuit.specs.Constants.{smoothing, leastCapacitance, l
 
 -- The cable and the station of a number, cut to the last. Of no cables or no stations, which every fault study refuses, it is the first place of the array.
 abbrev pub cutCable : DcSwitchingSimulator → ℕ → DcCable
-cutCable g k = getD (g .cables) (cut (min (g .«n_cables») 64) k) blankCable
+cutCable g k = getD (g .cables) (cut (cableCount (g .«n_cables»)) k) blankCable
 
 abbrev pub cutStation : DcSwitchingSimulator → ℕ → ConverterStation
-cutStation g k = getD (g .stations) (cut (min (g .«n_stations») 32) k) blankStation
+cutStation g k = getD (g .stations) (cut (stationCount (g .«n_stations»)) k) blankStation
 
 abbrev pub faultedCable : DcSwitchingSimulator → DcFaultEvent → DcCable
 faultedCable g f = cutCable g (f .«location_cable_id»)
@@ -48,7 +48,7 @@ cableCapacitance c = c .«c_per_km» ⊗ c .«length_km»
 
 -- of all stations; `sum` starts at zero
 abbrev pub stationsCapacitance : DcSwitchingSimulator → Float
-stationsCapacitance g = sumOf (λ k. getD (g .stations) k blankStation .«sm_capacitance_uf») (min (g .«n_stations») 32)
+stationsCapacitance g = sumOf (λ k. getD (g .stations) k blankStation .«sm_capacitance_uf») (stationCount (g .«n_stations»))
 
 -- from a cable, the station that feeds it and the stations' capacitance
 unfoldable pub parametersAt : DcCable → ConverterStation → Float → DcFaultEvent → RlcParameters

@@ -11,6 +11,8 @@ use grid::ConverterStation;
 use grid::DcCable;
 use grid::DcFaultEvent;
 use grid::DcSwitchingSimulator;
+use grid::MOST_CABLES;
+use grid::MOST_STATIONS;
 use grid::cut_end;
 use grid::present;
 
@@ -28,8 +30,8 @@ pub fn fault_rlc_params(g: DcSwitchingSimulator, fault: DcFaultEvent) -> RlcPara
 {
     let cables = g.cables;
     let stations = g.stations;
-    let n = present(g.n_stations, 32);
-    let k = cut_end(fault.location_cable_id, present(g.n_cables, 64));
+    let n = present(g.n_stations, MOST_STATIONS);
+    let k = cut_end(fault.location_cable_id, present(g.n_cables, MOST_CABLES));
     let cable = cables[k];
     let from = cut_end(cable.from_station, n);
     let station = stations[from];
@@ -55,7 +57,7 @@ fn parameters_at(
     }
 }
 
-fn capacitance_of(stations: [ConverterStation; 32], n: usize) -> f64
+fn capacitance_of(stations: [ConverterStation; MOST_STATIONS], n: usize) -> f64
     requires { ⌜ n ≤ 32 ⌝ }
     ensures { λ r. ⌜ r ≡ sumOf (λ k. getD stations k blankStation .«sm_capacitance_uf») n ⌝ }
 {

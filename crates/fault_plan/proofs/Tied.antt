@@ -4,7 +4,7 @@ use contract.Lifetimes.{Lfts}
 use borrow.Fn.World.{ArgsD, ResD}
 use borrow.Fn.Kinds.{endedOf}
 use denote.Triple.Clauses.{AtExit}
-use Rattle.fault_plan.specs.Fault.{beforeLoop}
+use Rattle.fault_plan.specs.Fault.{freshVariables, beforeLoop}
 use Rattle.fault_plan.specs.Plans.{planOf, constantsOf}
 use Rattle.fault_plan.specs.Quiet.{waitsBy, restsBy, quietStep}
 use Rattle.fault_plan.proofs.plan.fault_plan as plan-contract
@@ -13,6 +13,9 @@ use Rattle.fault_plan.proofs.plan.fault_plan.Reads as plan-reads
 use Rattle.fault_plan.proofs.plan.first_fault_variables as first-contract
 use Rattle.fault_plan.proofs.plan.first_fault_variables.Kinds as first-kinds
 use Rattle.fault_plan.proofs.plan.first_fault_variables.Reads as first-reads
+use Rattle.fault_plan.proofs.variables.fresh_variables as fresh-contract
+use Rattle.fault_plan.proofs.variables.fresh_variables.Kinds as fresh-kinds
+use Rattle.fault_plan.proofs.variables.fresh_variables.Reads as fresh-reads
 use Rattle.fault_plan.proofs.quiet.waits as waits-contract
 use Rattle.fault_plan.proofs.quiet.waits.Kinds as waits-kinds
 use Rattle.fault_plan.proofs.quiet.waits.Reads as waits-reads
@@ -46,6 +49,13 @@ module _ (κs : Lfts 0) (a : ArgsD first-contract.signature κs) (r : ResD first
 
   pub first-is : first-reads.Learnt κs a r e → r ≡ beforeLoop (a .0)
   first-is h = h
+
+module _ (κs : Lfts 0) (a : ArgsD fresh-contract.signature κs) (r : ResD fresh-contract.signature κs) (e : AtExit (endedOf 0 fresh-kinds.ps fresh-kinds.r) κs) where
+  pub fresh-any : fresh-reads.Asked κs a
+  fresh-any = tt
+
+  pub fresh-is : fresh-reads.Learnt κs a r e → r ≡ freshVariables (a .0) (a .1 .0)
+  fresh-is h = h
 
 module _ (κs : Lfts 0) (a : ArgsD waits-contract.signature κs) (r : ResD waits-contract.signature κs) (e : AtExit (endedOf 0 waits-kinds.ps waits-kinds.r) κs) where
   pub waits-any : waits-reads.Asked κs a

@@ -1,5 +1,5 @@
--- The loop of 000's `simulate_fault`: its body as a function on its variables, and the variables as before it. Definitions only.
-use Prim.Native.Nat.{ℕ, zero, suc, min}
+-- The loop of 000's `simulate_fault`: its body as a function on its variables, and their initial values. Definitions only.
+use Prim.Native.Nat.{ℕ, zero, suc}
 use mathlib.Core.Bool.{Bool, true, false, not, _&&_, _||_, cond}
 use mathlib.Core.List.{List}
 use lib.Ieee.{Float, nan, le}
@@ -8,6 +8,7 @@ use Rattle.lists.specs.Scans.{each}
 use Rattle.float64.specs.Constants.{nought, kilo, milli, pico}
 use Rattle.float64.specs.Arithmetic.{_⊕_, _⊖_, _⊗_, _⊘_, of}
 use Rattle.float64.specs.Choice.{maxOf, absOf}
+use Rattle.grid.specs.Simulator.{stationCount, breakerCount}
 use Rattle.grid.specs.declared.parts.DcFaultEvent.{DcFaultEvent}
 use Rattle.grid.specs.declared.simulator.DcSwitchingSimulator.{DcSwitchingSimulator}
 use Rattle.timing.specs.Steps.{timeStepMs, durationMs}
@@ -50,6 +51,28 @@ diDt dt i previous = absOf (i ⊖ previous) ⊘ maxOf dt pico
 -- "I²R·dt" of one step, in MJ
 abbrev pub dissipated : (dt resistance i : Float) → Float
 dissipated dt resistance i = (i ⊗ kilo) ⊗ (i ⊗ kilo) ⊗ resistance ⊗ (dt ⊗ milli) ⊘ million
+
+-- a step that changes the time, the fault's current and whether the fault is active, and nothing else
+abbrev pub timed : (t current : Float) → (active : Bool) → FaultVariables → FaultVariables
+timed t current active v =
+    record {
+      state =
+          record {
+            «time_ms» = t;
+            y = v .state .y;
+            «station_currents_ka» = v .state .«station_currents_ka»;
+            «fault_current_ka» = current;
+            «breaker_states» = v .state .«breaker_states»;
+          };
+      «peak_fault_ka» = v .«peak_fault_ka»;
+      «max_di_dt» = v .«max_di_dt»;
+      «energy_mj» = v .«energy_mj»;
+      «fault_cleared» = v .«fault_cleared»;
+      «clearing_time_ms» = v .«clearing_time_ms»;
+      «voltage_recovery_time_ms» = v .«voltage_recovery_time_ms»;
+      «prev_fault_current_ka» = v .«prev_fault_current_ka»;
+      «fault_active» = active;
+    }
 
 module _ (z : Setting) where
   -- fault_active: it stays once it is set
@@ -119,25 +142,7 @@ module _ (z : Setting) where
   -- ---- the fault is not active yet: no RK4 step, only the time
 
   unfoldable pub beforeInception : Float → FaultVariables → FaultVariables
-  beforeInception t v =
-      record {
-        state =
-            record {
-              «time_ms» = t;
-              y = v .state .y;
-              «station_currents_ka» = v .state .«station_currents_ka»;
-              «fault_current_ka» = v .state .«fault_current_ka»;
-              «breaker_states» = v .state .«breaker_states»;
-            };
-        «peak_fault_ka» = v .«peak_fault_ka»;
-        «max_di_dt» = v .«max_di_dt»;
-        «energy_mj» = v .«energy_mj»;
-        «fault_cleared» = v .«fault_cleared»;
-        «clearing_time_ms» = v .«clearing_time_ms»;
-        «voltage_recovery_time_ms» = v .«voltage_recovery_time_ms»;
-        «prev_fault_current_ka» = v .«prev_fault_current_ka»;
-        «fault_active» = activeAt t v;
-      }
+  beforeInception t v = timed t (v .state .«fault_current_ka») (activeAt t v) v
 
   -- the body, at the step of a number
   unfoldable pub body : ℕ → FaultVariables → FaultVariables
@@ -149,7 +154,7 @@ module _ (z : Setting) where
 
 -- ---- of a grid
 
--- what 000 has before its loop
+-- what 000 works out ahead of its loop
 abbrev pub settingOf : DcSwitchingSimulator → DcFaultEvent → Setting
 settingOf g f =
     record {
@@ -168,27 +173,33 @@ settingOf g f =
 unfoldable pub faultBody : DcSwitchingSimulator → DcFaultEvent → ℕ → FaultVariables → FaultVariables
 faultBody g f = body (settingOf g f)
 
--- 000's variables as before its loop: rated voltages, no current, all breakers closed
-unfoldable pub beforeLoop : DcSwitchingSimulator → FaultVariables
-beforeLoop g =
+-- variables of no step, beside a state: no current yet, the fault neither active nor cleared, and the times of clearing and of recovery at `until`
+abbrev pub freshVariables : DcTransientState → (until : Float) → FaultVariables
+freshVariables s until =
     record {
-      state =
-          record {
-            «time_ms» = nought;
-            y = padded 96 (min (g .«n_stations») 32) (rated (g .stations)) nought;
-            «station_currents_ka» = blank 32 nought;
-            «fault_current_ka» = nought;
-            «breaker_states» = padded 32 (min (g .«n_breakers») 32) (λ _. true) false;
-          };
+      state = s;
       «peak_fault_ka» = nought;
       «max_di_dt» = nought;
       «energy_mj» = nought;
       «fault_cleared» = false;
-      «clearing_time_ms» = durationMs g;
-      «voltage_recovery_time_ms» = durationMs g;
+      «clearing_time_ms» = until;
+      «voltage_recovery_time_ms» = until;
       «prev_fault_current_ka» = nought;
       «fault_active» = false;
     }
+
+-- the initial values of 000's variables: rated voltages, no current, all breakers closed, and both times at the duration
+unfoldable pub beforeLoop : DcSwitchingSimulator → FaultVariables
+beforeLoop g =
+    freshVariables
+    (record {
+      «time_ms» = nought;
+      y = padded 96 (stationCount (g .«n_stations»)) (rated (g .stations)) nought;
+      «station_currents_ka» = blank 32 nought;
+      «fault_current_ka» = nought;
+      «breaker_states» = padded 32 (breakerCount (g .«n_breakers»)) (λ _. true) false;
+    })
+    (durationMs g)
 
 -- and after its first k steps
 unfoldable pub faultAfter : DcSwitchingSimulator → DcFaultEvent → ℕ → FaultVariables

@@ -11,7 +11,7 @@ use Rattle.fault_current.specs.Current.{decayedOf}
 use Rattle.fault_plan.specs.declared.variables.FaultVariables.{FaultVariables}
 use Rattle.fault_plan.specs.declared.plan.FaultConstants.{FaultConstants}
 use Rattle.fault_plan.specs.declared.plan.FaultPlan.{FaultPlan}
-use Rattle.fault_plan.specs.Fault.{allRecovered}
+use Rattle.fault_plan.specs.Fault.{timed, allRecovered}
 use Rattle.fault_plan.specs.Plans.{planSetting}
 
 -- before inception: neither cleared nor active at the step
@@ -29,21 +29,8 @@ restsBy p v =
 unfoldable pub quietStep : FaultConstants → ℕ → FaultVariables → FaultVariables
 quietStep k step v =
     let t = timeAt (k .«dt_ms») step in
-    record {
-      state =
-          record {
-            «time_ms» = t;
-            y = v .state .y;
-            «station_currents_ka» = v .state .«station_currents_ka»;
-            «fault_current_ka» = cond (v .«fault_cleared») (decayedOf (k .circuit) (v .«prev_fault_current_ka») (v .«clearing_time_ms») t) (v .state .«fault_current_ka»);
-            «breaker_states» = v .state .«breaker_states»;
-          };
-      «peak_fault_ka» = v .«peak_fault_ka»;
-      «max_di_dt» = v .«max_di_dt»;
-      «energy_mj» = v .«energy_mj»;
-      «fault_cleared» = v .«fault_cleared»;
-      «clearing_time_ms» = v .«clearing_time_ms»;
-      «voltage_recovery_time_ms» = v .«voltage_recovery_time_ms»;
-      «prev_fault_current_ka» = v .«prev_fault_current_ka»;
-      «fault_active» = v .«fault_active» || le (k .circuit .«inception_time_ms») t;
-    }
+    timed
+    t
+    (cond (v .«fault_cleared») (decayedOf (k .circuit) (v .«prev_fault_current_ka») (v .«clearing_time_ms») t) (v .state .«fault_current_ka»))
+    (v .«fault_active» || le (k .circuit .«inception_time_ms») t)
+    v

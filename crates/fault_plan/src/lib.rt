@@ -1,4 +1,4 @@
-// What a fault run works out once, its variables as before the loop in 000's simulate_fault, and its steps that change no array.
+// What a fault run works out once, the initial values of its variables, and its steps that change no array.
 mod plan;
 mod quiet;
 mod variables;
@@ -12,3 +12,4 @@ pub use quiet::quiet_step;
 pub use quiet::rests;
 pub use quiet::waits;
 pub use variables::FaultVariables;
+pub use variables::fresh_variables;

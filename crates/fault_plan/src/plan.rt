@@ -1,13 +1,15 @@
-// What 000's simulate_fault has before its loop: what does not change in it, and the variables.
+// What 000's simulate_fault works out ahead of its loop: what does not change in it, and the variables' initial values.
 ghost use mathlib.Core.Path.{_≡_};
 ghost use Rattle.fault_plan.specs.Fault.{beforeLoop};
 ghost use Rattle.fault_plan.specs.Plans.{constantsOf, planOf};
 use crate::variables::FaultVariables;
+use crate::variables::fresh_variables;
 use breaker_times::fastest_breaker_clearing_ms;
 use fault_circuit::FaultCircuit;
 use fault_circuit::fault_circuit;
 use grid::DcFaultEvent;
 use grid::DcSwitchingSimulator;
+use grid::MOST_STATIONS;
 use grid::present;
 use network::Drain;
 use network::Network;
@@ -51,7 +53,7 @@ pub fn fault_constants(g: DcSwitchingSimulator, fault: DcFaultEvent) -> FaultCon
     ensures { λ r. ⌜ r ≡ constantsOf g fault ⌝ }
 {
     FaultConstants {
-        n_stations: present(g.n_stations, 32),
+        n_stations: present(g.n_stations, MOST_STATIONS),
         drain: drain_of(g, fault),
         circuit: fault_circuit(g, fault),
         dt_ms: time_step_ms(g),
@@ -60,11 +62,11 @@ pub fn fault_constants(g: DcSwitchingSimulator, fault: DcFaultEvent) -> FaultCon
     }
 }
 
-// 000's variables as before its loop.
+// The initial values of 000's variables: rated voltages, no current, all breakers closed.
 pub fn first_fault_variables(g: DcSwitchingSimulator) -> FaultVariables
     ensures { λ r. ⌜ r ≡ beforeLoop g ⌝ }
 {
-    let station_currents_ka = [0.0; 32];
+    let station_currents_ka = [0.0; MOST_STATIONS];
     let state = DcTransientState {
         time_ms: 0.0,
         y: rated_voltages(g),
@@ -72,15 +74,5 @@ pub fn first_fault_variables(g: DcSwitchingSimulator) -> FaultVariables
         fault_current_ka: 0.0,
         breaker_states: breakers_all(g.n_breakers, true),
     };
-    FaultVariables {
-        state,
-        peak_fault_ka: 0.0,
-        max_di_dt: 0.0,
-        energy_mj: 0.0,
-        fault_cleared: false,
-        clearing_time_ms: duration_ms(g),
-        voltage_recovery_time_ms: duration_ms(g),
-        prev_fault_current_ka: 0.0,
-        fault_active: false,
-    }
+    fresh_variables(state, duration_ms(g))
 }

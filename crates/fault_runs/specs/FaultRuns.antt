@@ -1,6 +1,6 @@
 -- Fault runs in portions, document 01.5. Definitions only.
 use Prim.Native.Nat.{ℕ, suc}
-use mathlib.Core.Bool.{Bool, false, not, _||_, cond}
+use mathlib.Core.Bool.{Bool, not, _||_, cond}
 use mathlib.Core.List.{List, [], _∷_}
 use lib.Dec.{eqb, ltb}
 use lib.ListN.{length}
@@ -13,7 +13,7 @@ use Rattle.timing.specs.Steps.{durationMs, stepsOf, countedTo, recorded, record
 use Rattle.rules.specs.Studies.{faultRefusal}
 use Rattle.portions.specs.Stopping.{Stepper, answerOf}
 use Rattle.fault_plan.specs.declared.variables.FaultVariables.{FaultVariables}
-use Rattle.fault_plan.specs.Fault.{faultBody, faultAfter}
+use Rattle.fault_plan.specs.Fault.{faultBody, freshVariables, faultAfter}
 use Rattle.fault_runs.specs.declared.fault_run.FaultRun.{FaultRun}
 use Rattle.fault_runs.specs.declared.fault_run.AdvancedFaultRun.{AdvancedFaultRun}
 use Rattle.records.specs.Records.{recordOf}
@@ -57,25 +57,14 @@ faultStepper =
 
 -- ---- what the functions return
 
--- beside a refusal: zeros and no
+-- beside a refusal: all zero and false
 unfoldable pub blankFaultRun : FaultRun
 blankFaultRun =
     record {
       grid = blankGrid;
       fault = record { «fault_type» = PoleToGround; «location_cable_id» = 0; «location_fraction» = nought; «fault_resistance» = nought; «inception_time_ms» = nought };
       «steps_made» = 0;
-      variables =
-          record {
-            state = blankState;
-            «peak_fault_ka» = nought;
-            «max_di_dt» = nought;
-            «energy_mj» = nought;
-            «fault_cleared» = false;
-            «clearing_time_ms» = nought;
-            «voltage_recovery_time_ms» = nought;
-            «prev_fault_current_ka» = nought;
-            «fault_active» = false;
-          };
+      variables = freshVariables blankState nought;
     }
 
 -- the run after t steps: the grid, the event, the steps made and 000's variables

@@ -53,7 +53,8 @@ fn fault_run_refused(run: FaultRun) -> bool
 impl FaultRun {
     // Makes at most `allowance` steps one by one, and writes the records of those that are recorded.
     pub fn advance(self, allowance: u64, records: &mut [f64]) -> AdvancedFaultRun
-        ensures { λ r. ⌜ (r ≡ advancedFaultRun self allowance (now (records .entry))) × (now (records .exit) ≡ memoryOf faultStepper self allowance (now (records .entry))) ⌝ }
+        ensures answer { λ r. ⌜ r ≡ advancedFaultRun self allowance (now (records .entry)) ⌝ }
+        ensures memory { λ _. ⌜ now (records .exit) ≡ memoryOf faultStepper self allowance (now (records .entry)) ⌝ }
     {
         if fault_run_refused(self) {
             return AdvancedFaultRun {

@@ -2,8 +2,8 @@
 ghost use mathlib.Core.Path.{_≡_};
 ghost use Rattle.rules.specs.Studies.{numberOf, faultRefusal};
 ghost use Rattle.fault_runs.specs.FaultRuns.{blankFaultRun, startedFaultRun};
-use fault_plan::FaultVariables;
 use fault_plan::first_fault_variables;
+use fault_plan::fresh_variables;
 use fault_runs::FaultRun;
 use grid::DcFaultEvent;
 use grid::DcFaultType;
@@ -18,9 +18,10 @@ pub struct StartedFaultRun {
     pub run: FaultRun,
 }
 
-// DcSwitchingSimulator::simulate_fault, up to its loop. Beside a refusal stands a run of zeros.
+// DcSwitchingSimulator::simulate_fault, up to its loop. Beside a refusal stands a run that is all zero and false.
 pub fn simulate_fault(g: DcSwitchingSimulator, fault: DcFaultEvent) -> StartedFaultRun
-    ensures { λ r. ⌜ (numberOf (r .verdict) ≡ faultRefusal g fault) × (r .run ≡ startedFaultRun g fault) ⌝ }
+    ensures verdict { λ r. ⌜ numberOf (r .verdict) ≡ faultRefusal g fault ⌝ }
+    ensures run { λ r. ⌜ r .run ≡ startedFaultRun g fault ⌝ }
 {
     let verdict = check_fault(g, fault);
     if rules::number(verdict) == 0 {
@@ -53,16 +54,6 @@ fn blank_fault_run() -> FaultRun
             inception_time_ms: 0.0,
         },
         steps_made: 0,
-        variables: FaultVariables {
-            state: blank_state(),
-            peak_fault_ka: 0.0,
-            max_di_dt: 0.0,
-            energy_mj: 0.0,
-            fault_cleared: false,
-            clearing_time_ms: 0.0,
-            voltage_recovery_time_ms: 0.0,
-            prev_fault_current_ka: 0.0,
-            fault_active: false,
-        },
+        variables: fresh_variables(blank_state(), 0.0),
     }
 }

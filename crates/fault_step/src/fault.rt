@@ -12,6 +12,7 @@ use fault_plan::quiet_step;
 use fault_plan::waits;
 use float64::abs;
 use float64::max;
+use grid::MOST_BREAKERS;
 use recovery::all_recovered;
 use recovery::recover_voltages;
 use run_start::step_time_ms;
@@ -83,11 +84,11 @@ fn dissipated_mj(i_fault_ka: f64, r_ohm: f64, dt_ms: f64) -> f64
 }
 
 // At clearing all breakers open.
-fn opened_if(clears: bool, breakers: [bool; 32]) -> [bool; 32]
+fn opened_if(clears: bool, breakers: [bool; MOST_BREAKERS]) -> [bool; MOST_BREAKERS]
     ensures { λ r. ⌜ r ≡ cond clears (blank 32 false) breakers ⌝ }
 {
     if clears {
-        return [false; 32];
+        return [false; MOST_BREAKERS];
     }
     breakers
 }

@@ -10,14 +10,15 @@ use Rattle.lists.proofs.Fills.{getD-padded, getD-rest}
 use Rattle.lists.proofs.Counting.{eq-or-ne}
 use Rattle.float64.specs.Constants.{nought}
 use Rattle.float64.specs.Arithmetic.{of}
+use Rattle.grid.specs.Simulator.{stationCount, cableCount}
 use Rattle.grid.specs.declared.simulator.DcSwitchingSimulator.{DcSwitchingSimulator}
 use Rattle.rules.specs.Studies.{flowRefusal}
 use Rattle.rule_claims.proofs.Sizes.{size-claims}
 use Rattle.converter.specs.Point.{blankPoint}
-use Rattle.conductances.specs.Conductances.{stationCount, conductancesOf}
+use Rattle.conductances.specs.Conductances.{conductancesOf}
 use Rattle.flow_voltages.specs.Voltages.{voltagesOf}
 use Rattle.pass_claims.proofs.Claims.{pass-claims, counted, first-pass}
-use Rattle.power_flow.specs.Flow.{cableCount, solutionAt, solutionOf, blankSolution, flowAnswer}
+use Rattle.power_flow.specs.Flow.{solutionAt, solutionOf, blankSolution, flowAnswer}
 use Rattle.power_flow.specs.Solution.{operatingPoint, pointOf}
 use Rattle.flow_claims.specs.Claims.{AnswerStops, AnswerSpent, AnswerClaims}
 
@@ -38,7 +39,7 @@ at-voltages : (g : DcSwitchingSimulator) → flowRefusal g ≡ 0 → (i : ℕ) �
 unfolding solutionAt operatingPoint
 at-voltages g h i l =
     let z = size-claims .flow g h .stations in
-    rw (accepted g h, getD-padded 32 (stationCount g) (pointOf (g .stations) (stationCount g) (conductancesOf g) (voltagesOf g .«v_dc_kv»)) blankPoint blankPoint i (omega arith) (omega arith))
+    rw (accepted g h, getD-padded 32 (stationCount (g .«n_stations»)) (pointOf (g .stations) (stationCount (g .«n_stations»)) (conductancesOf g) (voltagesOf g .«v_dc_kv»)) blankPoint blankPoint i (omega arith) (omega arith))
 
 stops : (g : DcSwitchingSimulator) → flowRefusal g ≡ 0 → flowAnswer g .converged ≡ true → AnswerStops g (flowAnswer g)
 stops g h c =
@@ -66,7 +67,7 @@ no-point-past : (g : DcSwitchingSimulator) (k : ℕ) → g .«n_stations» ≤ k
 unfolding solutionAt
 no-point-past g k l h =
     ⊎-elim
-    (λ e. rw (accepted g e) (getD-rest 32 (stationCount g) _ blankPoint blankPoint k (omega arith) h))
+    (λ e. rw (accepted g e) (getD-rest 32 (stationCount (g .«n_stations»)) _ blankPoint blankPoint k (omega arith) h))
     (λ d. rw (refused g d) (getD-replicate 32 k blankPoint blankPoint h))
     (eq-or-ne (flowRefusal g) 0)
 
@@ -74,7 +75,7 @@ no-loss-past : (g : DcSwitchingSimulator) (k : ℕ) → g .«n_cables» ≤ k �
 unfolding solutionAt
 no-loss-past g k l h =
     ⊎-elim
-    (λ e. rw (accepted g e) (getD-rest 64 (cableCount g) _ nought nought k (omega arith) h))
+    (λ e. rw (accepted g e) (getD-rest 64 (cableCount (g .«n_cables»)) _ nought nought k (omega arith) h))
     (λ d. rw (refused g d) (getD-replicate 64 k nought nought h))
     (eq-or-ne (flowRefusal g) 0)
 

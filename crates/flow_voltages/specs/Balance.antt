@@ -9,11 +9,11 @@ use Rattle.lists.specs.Tables.{padded}
 use Rattle.float64.specs.Constants.{nought}
 use Rattle.float64.specs.Arithmetic.{_⊖_, _⊗_, of, sumOf}
 use Rattle.float64.specs.Choice.{maxOf, absOf}
-use Rattle.grid.specs.Simulator.{blankStation}
+use Rattle.grid.specs.Simulator.{blankStation, stationCount}
 use Rattle.grid.specs.declared.parts.ConverterStation.{ConverterStation}
 use Rattle.grid.specs.declared.simulator.DcSwitchingSimulator.{DcSwitchingSimulator}
 use Rattle.flow_voltages.specs.Constants.{loading}
-use Rattle.conductances.specs.Conductances.{cell, stationCount, conductancesOf}
+use Rattle.conductances.specs.Conductances.{cell, conductancesOf}
 
 -- the current of station i: G(i,0)·V0 + G(i,1)·V1 + ..
 unfoldable pub current : List Float → ℕ → List Float → ℕ → Float
@@ -48,4 +48,4 @@ largest d (suc k) = maxOf (largest d k) (absOf (of d (suc k)))
 
 -- a grid's currents at voltages v
 abbrev pub currentsOf : DcSwitchingSimulator → List Float → List Float
-currentsOf g v = currents (conductancesOf g) (stationCount g) v
+currentsOf g v = currents (conductancesOf g) (stationCount (g .«n_stations»)) v

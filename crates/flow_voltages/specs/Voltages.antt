@@ -6,12 +6,12 @@ use lib.ListN.{getD}
 use lib.Ieee.{Float, lt}
 use Rattle.lists.specs.Tables.{padded}
 use Rattle.float64.specs.Constants.{nought}
-use Rattle.grid.specs.Simulator.{blankStation}
+use Rattle.grid.specs.Simulator.{blankStation, stationCount}
 use Rattle.grid.specs.declared.parts.ConverterStation.{ConverterStation}
 use Rattle.grid.specs.declared.simulator.DcSwitchingSimulator.{DcSwitchingSimulator}
 use Rattle.flow_voltages.specs.declared.voltages.Voltages.{Voltages}
 use Rattle.flow_voltages.specs.Constants.{tolerance, mostPasses}
-use Rattle.conductances.specs.Conductances.{stationCount, conductancesOf}
+use Rattle.conductances.specs.Conductances.{conductancesOf}
 use Rattle.voltage_moves.specs.Moves.{movedAll}
 use Rattle.flow_voltages.specs.Balance.{wantedPowers, mismatches, largest}
 
@@ -39,4 +39,4 @@ voltages stations n m =
 
 -- a grid's voltages, whether the passes met the tolerance, and how many there were
 abbrev pub voltagesOf : DcSwitchingSimulator → Voltages
-voltagesOf g = voltages (g .stations) (stationCount g) (conductancesOf g)
+voltagesOf g = voltages (g .stations) (stationCount (g .«n_stations»)) (conductancesOf g)

@@ -10,10 +10,16 @@ ghost use Rattle.flow_voltages.specs.Balance.{currents, butFirst, mismat
 ghost use Rattle.conductances.specs.Symmetric.{Symmetric};
 use float64::abs;
 use float64::max;
+use grid::MOST_STATIONS;
 
 // The current of every station, into zeros. Column after column: for each station the products are added in the same order as along its
 // row, and a column is added to all stations at once.
-pub fn station_currents(sums: &mut [f64; 32], m: &[f64; 1024], v: &[f64; 32], n: usize)
+pub fn station_currents(
+    sums: &mut [f64; MOST_STATIONS],
+    m: &[f64; 1024],
+    v: &[f64; MOST_STATIONS],
+    n: usize,
+)
     requires { ⌜ (n ≤ 32) × Symmetric n (m .now) × (sums .now ≡ blank 32 nought) ⌝ }
     ensures { λ _. ⌜ now (sums .exit) ≡ currents (now (m .entry)) n (now (v .entry)) ⌝ }
 {
@@ -24,29 +30,30 @@ pub fn station_currents(sums: &mut [f64; 32], m: &[f64; 1024], v: &[f64; 32], n:
     }
 }
 
-fn add_column(sums: &mut [f64; 32], m: &[f64; 1024], j: usize, x: f64, n: usize)
+fn add_column(sums: &mut [f64; MOST_STATIONS], m: &[f64; 1024], j: usize, x: f64, n: usize)
     requires { ⌜ (j < 32) × (n ≤ 32) ⌝ }
     ensures { λ _. ⌜ now (sums .exit) ≡ over n (λ i. of (now (sums .entry)) i ⊕ cell (now (m .entry)) j i ⊗ x) nan (now (sums .entry)) ⌝ }
 {
     let mut i = 0;
     while i < n {
-        sums[i] = sums[i] + m[j * 32 + i] * x;
+        sums[i] = sums[i] + m[j * MOST_STATIONS + i] * x;
         i += 1;
     }
 }
 
 // What the power of each station but the first lacks at given voltages, into zeros; and the largest of it.
 pub fn mismatches_at(
-    d: &mut [f64; 32],
+    d: &mut [f64; MOST_STATIONS],
     m: &[f64; 1024],
-    wanted: &[f64; 32],
-    v: &[f64; 32],
+    wanted: &[f64; MOST_STATIONS],
+    v: &[f64; MOST_STATIONS],
     n: usize,
 ) -> f64
     requires { ⌜ (n ≤ 32) × Symmetric n (m .now) × (d .now ≡ blank 32 nought) ⌝ }
-    ensures { λ r. ⌜ (now (d .exit) ≡ mismatches (now (m .entry)) (now (wanted .entry)) n (now (v .entry))) × (r ≡ largest (mismatches (now (m .entry)) (now (wanted .entry)) n (now (v .entry))) (n - 1)) ⌝ }
+    ensures memory { λ _. ⌜ now (d .exit) ≡ mismatches (now (m .entry)) (now (wanted .entry)) n (now (v .entry)) ⌝ }
+    ensures answer { λ r. ⌜ r ≡ largest (mismatches (now (m .entry)) (now (wanted .entry)) n (now (v .entry))) (n - 1) ⌝ }
 {
-    let mut currents = [0.0; 32];
+    let mut currents = [0.0; MOST_STATIONS];
     station_currents(&mut currents, m, v, n);
     power_mismatches(d, wanted, v, &currents, n);
     largest_mismatch(d, n)
@@ -54,10 +61,10 @@ pub fn mismatches_at(
 
 // From the stations' currents.
 fn power_mismatches(
-    d: &mut [f64; 32],
-    wanted: &[f64; 32],
-    v: &[f64; 32],
-    currents: &[f64; 32],
+    d: &mut [f64; MOST_STATIONS],
+    wanted: &[f64; MOST_STATIONS],
+    v: &[f64; MOST_STATIONS],
+    currents: &[f64; MOST_STATIONS],
     n: usize,
 )
     requires { ⌜ (n ≤ 32) × (d .now ≡ blank 32 nought) ⌝ }
@@ -71,7 +78,7 @@ fn power_mismatches(
 }
 
 // A NaN among them is passed over.
-fn largest_mismatch(d: &[f64; 32], n: usize) -> f64
+fn largest_mismatch(d: &[f64; MOST_STATIONS], n: usize) -> f64
     requires { ⌜ n ≤ 32 ⌝ }
     ensures { λ r. ⌜ r ≡ largest (now (d .entry)) (n - 1) ⌝ }
 {

@@ -17,6 +17,7 @@ use crate::balance::station_currents;
 use conductances::conductances_of;
 use grid::ConverterStation;
 use grid::DcSwitchingSimulator;
+use grid::MOST_STATIONS;
 use grid::present;
 use voltage_moves::move_voltages;
 
@@ -29,7 +30,7 @@ const MOST_PASSES: u64 = 50;
 const TOLERANCE: f64 = 0.000001;
 
 pub struct Voltages {
-    pub v_dc_kv: [f64; 32],
+    pub v_dc_kv: [f64; MOST_STATIONS],
     pub converged: bool,
     pub iterations: u64,
 }
@@ -37,7 +38,7 @@ pub struct Voltages {
 // The currents are those of the stations at the voltages.
 pub struct Found {
     pub voltages: Voltages,
-    pub i_dc_ka: [f64; 32],
+    pub i_dc_ka: [f64; MOST_STATIONS],
 }
 
 struct Outcome {
@@ -55,14 +56,15 @@ pub fn find_voltages(g: DcSwitchingSimulator) -> Voltages
 
 // Beside the voltages the currents at them, from the same conductances.
 pub fn find_with_currents(g: DcSwitchingSimulator) -> Found
-    ensures { λ r. ⌜ (r .voltages ≡ voltagesOf g) × (r .«i_dc_ka» ≡ currentsOf g (voltagesOf g .«v_dc_kv»)) ⌝ }
+    ensures voltages { λ r. ⌜ r .voltages ≡ voltagesOf g ⌝ }
+    ensures currents { λ r. ⌜ r .«i_dc_ka» ≡ currentsOf g (voltagesOf g .«v_dc_kv») ⌝ }
 {
-    let n = present(g.n_stations, 32);
+    let n = present(g.n_stations, MOST_STATIONS);
     let stations = g.stations;
     let m = conductances_of(g);
     let voltages = run_passes(stations, n, &m);
     let v = voltages.v_dc_kv;
-    let mut sums = [0.0; 32];
+    let mut sums = [0.0; MOST_STATIONS];
     station_currents(&mut sums, &m, &v, n);
     Found {
         voltages,
@@ -71,12 +73,12 @@ pub fn find_with_currents(g: DcSwitchingSimulator) -> Found
 }
 
 // Station 0 holds its voltage, the others their power.
-fn run_passes(stations: [ConverterStation; 32], n: usize, m: &[f64; 1024]) -> Voltages
+fn run_passes(stations: [ConverterStation; MOST_STATIONS], n: usize, m: &[f64; 1024]) -> Voltages
     requires { ⌜ (n ≤ 32) × Symmetric n (m .now) ⌝ }
     ensures { λ r. ⌜ r ≡ specs.voltages stations n (now (m .entry)) ⌝ }
 {
-    let mut rated = [0.0; 32];
-    let mut wanted = [0.0; 32];
+    let mut rated = [0.0; MOST_STATIONS];
+    let mut wanted = [0.0; MOST_STATIONS];
     read_ratings(&mut rated, &mut wanted, stations, n);
     let mut v = rated;
     let mut passes = 0;
@@ -87,7 +89,7 @@ fn run_passes(stations: [ConverterStation; 32], n: usize, m: &[f64; 1024]) -> Vo
                 iterations: passes,
             };
         }
-        let mut d = [0.0; 32];
+        let mut d = [0.0; MOST_STATIONS];
         let largest = mismatches_at(&mut d, m, &wanted, &v, n);
         passes += 1;
         if largest < TOLERANCE {
@@ -107,13 +109,14 @@ fn run_passes(stations: [ConverterStation; 32], n: usize, m: &[f64; 1024]) -> Vo
 
 // The voltages that the passes begin at and the powers that they look for, into zeros.
 fn read_ratings(
-    rated: &mut [f64; 32],
-    wanted: &mut [f64; 32],
-    stations: [ConverterStation; 32],
+    rated: &mut [f64; MOST_STATIONS],
+    wanted: &mut [f64; MOST_STATIONS],
+    stations: [ConverterStation; MOST_STATIONS],
     n: usize,
 )
     requires { ⌜ (n ≤ 32) × (rated .now ≡ blank 32 nought) × (wanted .now ≡ blank 32 nought) ⌝ }
-    ensures { λ _. ⌜ (now (rated .exit) ≡ ratedVoltages stations n) × (now (wanted .exit) ≡ wantedPowers stations n) ⌝ }
+    ensures rated { λ _. ⌜ now (rated .exit) ≡ ratedVoltages stations n ⌝ }
+    ensures wanted { λ _. ⌜ now (wanted .exit) ≡ wantedPowers stations n ⌝ }
 {
     let mut i = 0;
     while i < n {

@@ -1,5 +1,5 @@
 -- A grid: what `new` makes, what a part more makes of it, and which parts it has. Definitions only.
-use Prim.Native.Nat.{_+_}
+use Prim.Native.Nat.{ℕ, _+_, min}
 use mathlib.Core.Bool.{true, false, cond}
 use mathlib.Core.List.{List}
 use lib.Dec.{ltb}
@@ -27,6 +27,16 @@ cablesOf g = take (g .«n_cables») (g .cables)
 
 abbrev pub breakersOf : DcSwitchingSimulator → List DcBreaker
 breakersOf g = take (g .«n_breakers») (g .breakers)
+
+-- how many that is, of a count: a grid's, or one that was read from it
+abbrev pub stationCount : ℕ → ℕ
+stationCount n = min n 32
+
+abbrev pub cableCount : ℕ → ℕ
+cableCount n = min n 64
+
+abbrev pub breakerCount : ℕ → ℕ
+breakerCount n = min n 32
 
 -- what an array holds where no part was put
 abbrev pub blankStation : ConverterStation
@@ -68,9 +78,9 @@ keptTimeStep dt = cond (realIn range.timeStep dt) (maxOf dt leastTimeStep) dt
 unfoldable pub keptDuration : Float → Float
 keptDuration d = cond (realIn range.duration d) (maxOf d leastDuration) d
 
--- `new`: no parts yet, and the time step and the duration as they are kept
-unfoldable pub newSimulator : Float → Float → DcSwitchingSimulator
-newSimulator dt duration =
+-- a grid with no parts, and with a time step and a duration
+abbrev pub withoutParts : Float → Float → DcSwitchingSimulator
+withoutParts dt duration =
     record {
       stations = replicate 32 blankStation;
       cables = replicate 64 blankCable;
@@ -78,16 +88,20 @@ newSimulator dt duration =
       «n_stations» = 0;
       «n_cables» = 0;
       «n_breakers» = 0;
-      «dt_us» = keptTimeStep dt;
-      «duration_ms» = keptDuration duration;
+      «dt_us» = dt;
+      «duration_ms» = duration;
     }
+
+-- `new`: no parts yet, and the time step and the duration as they are kept
+unfoldable pub newSimulator : Float → Float → DcSwitchingSimulator
+newSimulator dt duration = withoutParts (keptTimeStep dt) (keptDuration duration)
 
 -- the answer where there is room, and where there is none: the grid as it was
 abbrev pub added : DcSwitchingSimulator → Added
 added g = record { grid = g; «has_room» = true }
 
-abbrev pub full : DcSwitchingSimulator → Added
-full g = record { grid = g; «has_room» = false }
+abbrev pub withoutRoom : DcSwitchingSimulator → Added
+withoutRoom g = record { grid = g; «has_room» = false }
 
 -- a part put at the end, where there is room
 unfoldable pub withStation : DcSwitchingSimulator → ConverterStation → Added
@@ -104,7 +118,7 @@ withStation g s =
       «dt_us» = g .«dt_us»;
       «duration_ms» = g .«duration_ms»;
     })
-    (full g)
+    (withoutRoom g)
 
 unfoldable pub withCable : DcSwitchingSimulator → DcCable → Added
 withCable g c =
@@ -120,7 +134,7 @@ withCable g c =
       «dt_us» = g .«dt_us»;
       «duration_ms» = g .«duration_ms»;
     })
-    (full g)
+    (withoutRoom g)
 
 unfoldable pub withBreaker : DcSwitchingSimulator → DcBreaker → Added
 withBreaker g b =
@@ -136,4 +150,4 @@ withBreaker g b =
       «dt_us» = g .«dt_us»;
       «duration_ms» = g .«duration_ms»;
     })
-    (full g)
+    (withoutRoom g)

@@ -18,4 +18,7 @@ pub use simulator::Added;
 pub use simulator::DcSwitchingSimulator;
 pub use simulator::LEAST_DURATION_MS;
 pub use simulator::LEAST_TIME_STEP_US;
+pub use simulator::MOST_BREAKERS;
+pub use simulator::MOST_CABLES;
+pub use simulator::MOST_STATIONS;
 pub use simulator::present;

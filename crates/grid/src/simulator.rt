@@ -9,6 +9,13 @@ use crate::parts::DcBreakerType;
 use crate::parts::DcCable;
 use ranges::in_range;
 
+// The most stations, cables and breakers that a grid has room for.
+pub const MOST_STATIONS: usize = 32;
+
+pub const MOST_CABLES: usize = 64;
+
+pub const MOST_BREAKERS: usize = 32;
+
 // What a time step and a duration are raised to.
 pub const LEAST_TIME_STEP_US: f64 = 0.1;
 
@@ -16,19 +23,24 @@ pub const LEAST_DURATION_MS: f64 = 0.001;
 
 // 000's simulator. What stands in an array at or past its count is never read.
 pub struct DcSwitchingSimulator {
-    pub stations: [ConverterStation; 32],
-    pub cables: [DcCable; 64],
-    pub breakers: [DcBreaker; 32],
+    // a station's number is its position here, and so for cables and breakers
+    pub stations: [ConverterStation; MOST_STATIONS],
+    pub cables: [DcCable; MOST_CABLES],
+    pub breakers: [DcBreaker; MOST_BREAKERS],
+    // how many there are; rule 3 refuses a count past its array
     pub n_stations: usize,
     pub n_cables: usize,
     pub n_breakers: usize,
+    // time step of a run, µs
     pub dt_us: f64,
+    // length of a run, ms
     pub duration_ms: f64,
 }
 
 // The grid with a part more, or the same grid where there is no room.
 pub struct Added {
     pub grid: DcSwitchingSimulator,
+    // whether there was room for the part
     pub has_room: bool,
 }
 
@@ -68,9 +80,9 @@ impl DcSwitchingSimulator {
             energy_absorption_mj: 0.0,
         };
         DcSwitchingSimulator {
-            stations: [station; 32],
-            cables: [cable; 64],
-            breakers: [breaker; 32],
+            stations: [station; MOST_STATIONS],
+            cables: [cable; MOST_CABLES],
+            breakers: [breaker; MOST_BREAKERS],
             n_stations: 0,
             n_cables: 0,
             n_breakers: 0,
@@ -85,7 +97,7 @@ impl DcSwitchingSimulator {
     {
         let mut grid = self;
         let stations = grid.n_stations;
-        if stations < 32 {
+        if stations < MOST_STATIONS {
             grid.stations[stations] = station;
             grid.n_stations = stations + 1;
             return Added {
@@ -105,7 +117,7 @@ impl DcSwitchingSimulator {
     {
         let mut grid = self;
         let cables = grid.n_cables;
-        if cables < 64 {
+        if cables < MOST_CABLES {
             grid.cables[cables] = cable;
             grid.n_cables = cables + 1;
             return Added {
@@ -125,7 +137,7 @@ impl DcSwitchingSimulator {
     {
         let mut grid = self;
         let breakers = grid.n_breakers;
-        if breakers < 32 {
+        if breakers < MOST_BREAKERS {
             grid.breakers[breakers] = breaker;
             grid.n_breakers = breakers + 1;
             return Added {

@@ -1,5 +1,5 @@
 -- What every stage of a step needs of a grid and of a fault. Definitions only.
-use Prim.Native.Nat.{ℕ, min}
+use Prim.Native.Nat.{ℕ}
 use mathlib.Core.Bool.{cond}
 use mathlib.Core.List.{List}
 use lib.Dec.{ltb}
@@ -10,6 +10,7 @@ use Rattle.float64.specs.Constants.{nought, kilo, milli, micro}
 use Rattle.float64.specs.Arithmetic.{_⊗_}
 use Rattle.float64.specs.Choice.{maxOf}
 use Rattle.grid.specs.Simulator.{blankStation, blankCable, cablesOf}
+pub use Rattle.grid.specs.Simulator.{stationCount, cableCount}
 use Rattle.grid.specs.Cables.{resistance}
 use Rattle.grid.specs.declared.parts.ConverterStation.{ConverterStation}
 use Rattle.grid.specs.declared.parts.DcCable.{DcCable}
@@ -38,13 +39,6 @@ endTable cables k f = padded 64 k (λ i. f (getD cables i blankCable)) 0
 -- and of each of the first n stations
 abbrev pub stationTable : List ConverterStation → ℕ → (ConverterStation → Float) → List Float
 stationTable stations n f = padded 32 n (λ i. f (getD stations i blankStation)) nought
-
--- how many stations and cables there are
-abbrev pub stationCount : ℕ → ℕ
-stationCount n = min n 32
-
-abbrev pub cableCount : ℕ → ℕ
-cableCount m = min m 64
 
 -- the number at a position of such a table of ends
 abbrev pub end : List ℕ → ℕ → ℕ

@@ -9,6 +9,7 @@ use grid::ConverterStation;
 use grid::ConverterTopology;
 use grid::DcCable;
 use grid::DcSwitchingSimulator;
+use grid::MOST_CABLES;
 use grid::counted_submodules;
 use grid::present;
 use std::num::nearest_u64_to_f64;
@@ -18,7 +19,7 @@ pub fn station_capacitance_uf(g: DcSwitchingSimulator, station: ConverterStation
     ensures { λ r. ⌜ r ≡ capacitanceAt (cablesOf g) station ⌝ }
 {
     let cables = g.cables;
-    let joined = joined_capacitance(station.id, cables, present(g.n_cables, 64));
+    let joined = joined_capacitance(station.id, cables, present(g.n_cables, MOST_CABLES));
     capacitance_with(station, joined)
 }
 
@@ -29,7 +30,7 @@ pub fn capacitance_with(station: ConverterStation, joined: f64) -> f64
 }
 
 // Of the cables at a station, by its id.
-pub fn joined_capacitance(id: u64, cables: [DcCable; 64], n_cables: usize) -> f64
+pub fn joined_capacitance(id: u64, cables: [DcCable; MOST_CABLES], n_cables: usize) -> f64
     requires { ⌜ «n_cables» ≤ 64 ⌝ }
     ensures { λ r. ⌜ r ≡ joinedCapacitance id (take «n_cables» cables) ⌝ }
 {

@@ -13,6 +13,8 @@ use grid::ConverterStation;
 use grid::DcCable;
 use grid::DcFaultEvent;
 use grid::DcSwitchingSimulator;
+use grid::MOST_CABLES;
+use grid::MOST_STATIONS;
 use grid::cable_resistance;
 use grid::present;
 
@@ -20,11 +22,11 @@ use grid::present;
 pub struct Network {
     pub n_stations: usize,
     pub n_cables: usize,
-    pub from: [usize; 64],
-    pub to: [usize; 64],
-    pub resistance_ohm: [f64; 64],
-    pub inductance_h: [f64; 64],
-    pub capacitance_f: [f64; 32],
+    pub from: [usize; MOST_CABLES],
+    pub to: [usize; MOST_CABLES],
+    pub resistance_ohm: [f64; MOST_CABLES],
+    pub inductance_h: [f64; MOST_CABLES],
+    pub capacitance_f: [f64; MOST_STATIONS],
 }
 
 // What a fault drains from the stations at both ends of its cable.
@@ -37,22 +39,22 @@ pub struct Drain {
 }
 
 // Past every station.
-const NOWHERE: usize = 32;
+const NOWHERE: usize = MOST_STATIONS;
 
 pub fn network_of(g: DcSwitchingSimulator) -> Network
     ensures { λ r. ⌜ r ≡ networkOf g ⌝ }
 {
-    let n_stations = present(g.n_stations, 32);
-    let n_cables = present(g.n_cables, 64);
+    let n_stations = present(g.n_stations, MOST_STATIONS);
+    let n_cables = present(g.n_cables, MOST_CABLES);
     let stations = g.stations;
     let cables = g.cables;
-    let mut from = [0; 64];
-    let mut to = [0; 64];
+    let mut from = [0; MOST_CABLES];
+    let mut to = [0; MOST_CABLES];
     read_ends(&mut from, &mut to, cables, n_cables);
-    let mut r = [0.0; 64];
-    let mut l = [0.0; 64];
+    let mut r = [0.0; MOST_CABLES];
+    let mut l = [0.0; MOST_CABLES];
     read_impedances(&mut r, &mut l, cables, n_cables);
-    let mut c = [0.0; 32];
+    let mut c = [0.0; MOST_STATIONS];
     read_capacitances(&mut c, stations, n_stations, cables, n_cables);
     Network {
         n_stations,
@@ -66,9 +68,15 @@ pub fn network_of(g: DcSwitchingSimulator) -> Network
 }
 
 // The numbers of both ends of each cable as given, into zeros.
-fn read_ends(from: &mut [usize; 64], to: &mut [usize; 64], cables: [DcCable; 64], n_cables: usize)
+fn read_ends(
+    from: &mut [usize; MOST_CABLES],
+    to: &mut [usize; MOST_CABLES],
+    cables: [DcCable; MOST_CABLES],
+    n_cables: usize,
+)
     requires { ⌜ («n_cables» ≤ 64) × (from .now ≡ blank 64 0) × (to .now ≡ blank 64 0) ⌝ }
-    ensures { λ _. ⌜ (now (from .exit) ≡ endTable cables «n_cables» (λ c. c .«from_station»)) × (now (to .exit) ≡ endTable cables «n_cables» (λ c. c .«to_station»)) ⌝ }
+    ensures from { λ _. ⌜ now (from .exit) ≡ endTable cables «n_cables» (λ c. c .«from_station») ⌝ }
+    ensures to { λ _. ⌜ now (to .exit) ≡ endTable cables «n_cables» (λ c. c .«to_station») ⌝ }
 {
     let mut i = 0;
     while i < n_cables {
@@ -80,9 +88,15 @@ fn read_ends(from: &mut [usize; 64], to: &mut [usize; 64], cables: [DcCable; 64]
 }
 
 // The total resistance and inductance of each cable, into zeros.
-fn read_impedances(r: &mut [f64; 64], l: &mut [f64; 64], cables: [DcCable; 64], n_cables: usize)
+fn read_impedances(
+    r: &mut [f64; MOST_CABLES],
+    l: &mut [f64; MOST_CABLES],
+    cables: [DcCable; MOST_CABLES],
+    n_cables: usize,
+)
     requires { ⌜ («n_cables» ≤ 64) × (r .now ≡ blank 64 nought) × (l .now ≡ blank 64 nought) ⌝ }
-    ensures { λ _. ⌜ (now (r .exit) ≡ cableTable cables «n_cables» resistance) × (now (l .exit) ≡ cableTable cables «n_cables» inductance) ⌝ }
+    ensures resistances { λ _. ⌜ now (r .exit) ≡ cableTable cables «n_cables» resistance ⌝ }
+    ensures inductances { λ _. ⌜ now (l .exit) ≡ cableTable cables «n_cables» inductance ⌝ }
 {
     let mut i = 0;
     while i < n_cables {
@@ -102,10 +116,10 @@ fn cable_inductance(c: DcCable) -> f64
 
 // The capacitance at each station in farads, into zeros.
 fn read_capacitances(
-    c: &mut [f64; 32],
-    stations: [ConverterStation; 32],
+    c: &mut [f64; MOST_STATIONS],
+    stations: [ConverterStation; MOST_STATIONS],
     n_stations: usize,
-    cables: [DcCable; 64],
+    cables: [DcCable; MOST_CABLES],
     n_cables: usize,
 )
     requires { ⌜ («n_stations» ≤ 32) × («n_cables» ≤ 64) × (c .now ≡ blank 32 nought) ⌝ }
@@ -125,7 +139,7 @@ pub fn drain_of(g: DcSwitchingSimulator, fault: DcFaultEvent) -> Drain
     ensures { λ r. ⌜ r ≡ drainOf g fault ⌝ }
 {
     let k = fault.location_cable_id as usize;
-    if k < present(g.n_cables, 64) {
+    if k < present(g.n_cables, MOST_CABLES) {
         let cables = g.cables;
         let c = cables[k];
         return Drain {

@@ -19,7 +19,8 @@ pub struct PointAnswer {
 
 // A station's point, if the station is accepted.
 fn answered(station: ConverterStation, point: ConverterOperatingPoint) -> PointAnswer
-    ensures { λ r. ⌜ (numberOf (r .verdict) ≡ pointRefusal station) × (r .point ≡ accepted station point) ⌝ }
+    ensures verdict { λ r. ⌜ numberOf (r .verdict) ≡ pointRefusal station ⌝ }
+    ensures point { λ r. ⌜ r .point ≡ accepted station point ⌝ }
 {
     let verdict = check_operating_point(station);
     if number(verdict) == 0 {
@@ -33,14 +34,16 @@ fn answered(station: ConverterStation, point: ConverterOperatingPoint) -> PointA
 
 // DcSwitchingSimulator::lcc_operating_point
 pub fn lcc_operating_point(station: ConverterStation, i_dc_ka: f64) -> PointAnswer
-    ensures { λ r. ⌜ (numberOf (r .verdict) ≡ pointRefusal station) × (r .point ≡ lccAnswer station «i_dc_ka») ⌝ }
+    ensures verdict { λ r. ⌜ numberOf (r .verdict) ≡ pointRefusal station ⌝ }
+    ensures point { λ r. ⌜ r .point ≡ lccAnswer station «i_dc_ka» ⌝ }
 {
     answered(station, lcc_point(station, i_dc_ka))
 }
 
 // DcSwitchingSimulator::vsc_operating_point
 pub fn vsc_operating_point(station: ConverterStation, p_mw: f64, v_dc_kv: f64) -> PointAnswer
-    ensures { λ r. ⌜ (numberOf (r .verdict) ≡ pointRefusal station) × (r .point ≡ vscAnswer station «p_mw» «v_dc_kv») ⌝ }
+    ensures verdict { λ r. ⌜ numberOf (r .verdict) ≡ pointRefusal station ⌝ }
+    ensures point { λ r. ⌜ r .point ≡ vscAnswer station «p_mw» «v_dc_kv» ⌝ }
 {
     answered(station, vsc_point(station, p_mw, v_dc_kv))
 }

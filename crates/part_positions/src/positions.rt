@@ -4,6 +4,9 @@ ghost use Rattle.lists.specs.Scans.{passing};
 ghost use Rattle.part_checks.specs.PartChecks.{stationOk, cableOk, breakerOk};
 ghost use Rattle.grid.specs.Simulator.{stationsOf, cablesOf, breakersOf};
 use grid::DcSwitchingSimulator;
+use grid::MOST_BREAKERS;
+use grid::MOST_CABLES;
+use grid::MOST_STATIONS;
 use grid::present;
 use part_checks::check_breaker;
 use part_checks::check_cable;
@@ -14,7 +17,7 @@ use part_checks::check_station;
 pub fn first_bad_station(g: DcSwitchingSimulator) -> usize
     ensures { λ r. ⌜ r ≡ passing stationOk (stationsOf g) ⌝ }
 {
-    let n = present(g.n_stations, 32);
+    let n = present(g.n_stations, MOST_STATIONS);
     let stations = g.stations;
     let mut i = 0;
     while i < n {
@@ -32,7 +35,7 @@ pub fn first_bad_station(g: DcSwitchingSimulator) -> usize
 pub fn first_bad_cable(g: DcSwitchingSimulator) -> usize
     ensures { λ r. ⌜ r ≡ passing cableOk (cablesOf g) ⌝ }
 {
-    let n = present(g.n_cables, 64);
+    let n = present(g.n_cables, MOST_CABLES);
     let cables = g.cables;
     let mut i = 0;
     while i < n {
@@ -50,7 +53,7 @@ pub fn first_bad_cable(g: DcSwitchingSimulator) -> usize
 pub fn first_bad_breaker(g: DcSwitchingSimulator) -> usize
     ensures { λ r. ⌜ r ≡ passing breakerOk (breakersOf g) ⌝ }
 {
-    let n = present(g.n_breakers, 32);
+    let n = present(g.n_breakers, MOST_BREAKERS);
     let breakers = g.breakers;
     let mut i = 0;
     while i < n {

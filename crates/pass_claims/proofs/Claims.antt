@@ -8,10 +8,11 @@ use native.Mathlib.Numerals.{add-one}
 use lib.Ieee.{lt, ofBits}
 use Rattle.lists.proofs.Counting.{by-test, contrary, eq-or-ne}
 use Rattle.float64.specs.Constants.{nought}
+use Rattle.grid.specs.Simulator.{stationCount}
 use Rattle.grid.specs.declared.simulator.DcSwitchingSimulator.{DcSwitchingSimulator}
 use Rattle.flow_voltages.specs.declared.voltages.Voltages.{Voltages}
 use Rattle.flow_voltages.specs.Constants.{tolerance}
-use Rattle.conductances.specs.Conductances.{stationCount, conductancesOf}
+use Rattle.conductances.specs.Conductances.{conductancesOf}
 use Rattle.flow_voltages.specs.Balance.{wantedPowers}
 use Rattle.flow_voltages.specs.Voltages.{passes, voltages, ratedVoltages, voltagesOf}
 use Rattle.pass_claims.specs.Claims.{voltagesAfter, mismatchAfter, Stops, Spent, PassClaims}
@@ -20,7 +21,7 @@ use Rattle.pass_claims.specs.Claims.{voltagesAfter, mismatchAfter, Stops
 
 module _ (g : DcSwitchingSimulator) where
   abbrev go : ℕ → ℕ → Voltages
-  go left k = passes (conductancesOf g) (stationCount g) (ratedVoltages (g .stations) (stationCount g)) (wantedPowers (g .stations) (stationCount g)) left k (voltagesAfter g k)
+  go left k = passes (conductancesOf g) (stationCount (g .«n_stations»)) (ratedVoltages (g .stations) (stationCount (g .«n_stations»))) (wantedPowers (g .stations) (stationCount (g .«n_stations»))) left k (voltagesAfter g k)
 
   -- a pass that does not stop hands on to the next
   next : (left k : ℕ) → lt (mismatchAfter g k) tolerance ≡ false → go (suc left) k ≡ go left (suc k)
@@ -85,7 +86,7 @@ unfolding lt ofBits
 small = refl
 
 nothing-lacks : (g : DcSwitchingSimulator) → g .«n_stations» ≡ 1 → lt (mismatchAfter g 0) tolerance ≡ true
-nothing-lacks g e = let z : stationCount g - 1 ≡ 0 = omega (arith, e) in rw z small
+nothing-lacks g e = let z : stationCount (g .«n_stations») - 1 ≡ 0 = omega (arith, e) in rw z small
 
 pub first-pass : (g : DcSwitchingSimulator) → g .«n_stations» ≡ 1 → (voltagesOf g .converged ≡ true) × (voltagesOf g .iterations ≡ 1)
 unfolding voltages voltagesAfter

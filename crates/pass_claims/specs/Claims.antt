@@ -4,21 +4,22 @@ use mathlib.Core.Path.{_≡_}
 use mathlib.Core.Bool.{true, false}
 use mathlib.Core.List.{List}
 use lib.Ieee.{Float, lt}
+use Rattle.grid.specs.Simulator.{stationCount}
 use Rattle.grid.specs.declared.simulator.DcSwitchingSimulator.{DcSwitchingSimulator}
 use Rattle.flow_voltages.specs.declared.voltages.Voltages.{Voltages}
 use Rattle.flow_voltages.specs.Constants.{tolerance}
-use Rattle.conductances.specs.Conductances.{stationCount, conductancesOf}
+use Rattle.conductances.specs.Conductances.{conductancesOf}
 use Rattle.flow_voltages.specs.Balance.{wantedPowers}
 use Rattle.flow_voltages.specs.Voltages.{largestAt, after, ratedVoltages, voltagesOf}
 
 -- a grid's voltages after k passes, and the largest mismatch that the next pass sees
 unfoldable pub voltagesAfter : DcSwitchingSimulator → ℕ → List Float
-voltagesAfter g zero = ratedVoltages (g .stations) (stationCount g)
+voltagesAfter g zero = ratedVoltages (g .stations) (stationCount (g .«n_stations»))
 voltagesAfter g (suc k) =
-    after (conductancesOf g) (stationCount g) (ratedVoltages (g .stations) (stationCount g)) (wantedPowers (g .stations) (stationCount g)) (voltagesAfter g k)
+    after (conductancesOf g) (stationCount (g .«n_stations»)) (ratedVoltages (g .stations) (stationCount (g .«n_stations»))) (wantedPowers (g .stations) (stationCount (g .«n_stations»))) (voltagesAfter g k)
 
 abbrev pub mismatchAfter : DcSwitchingSimulator → ℕ → Float
-mismatchAfter g k = largestAt (conductancesOf g) (stationCount g) (ratedVoltages (g .stations) (stationCount g)) (wantedPowers (g .stations) (stationCount g)) (voltagesAfter g k)
+mismatchAfter g k = largestAt (conductancesOf g) (stationCount (g .«n_stations»)) (ratedVoltages (g .stations) (stationCount (g .«n_stations»))) (wantedPowers (g .stations) (stationCount (g .«n_stations»))) (voltagesAfter g k)
 
 -- "it stops in the first pass whose largest mismatch is below 1e-6 and returns that pass's number": k passes moved the voltages, and the one after them stopped
 pub record Stops (g : DcSwitchingSimulator) (found : Voltages) : Type 0 where

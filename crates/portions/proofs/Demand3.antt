@@ -12,7 +12,7 @@ use Rattle.portions.specs.declared.Stop.the-variants.{Finished}
 use Rattle.portions.specs.Stopping.{Stepper, joined}
 use Rattle.portions.specs.Tally.{closesAfter, rowsAfter}
 use Rattle.portions.specs.Calls.{Called, Made, Chain, last, reported, and}
-use Rattle.portions.specs.Course.{Course, itemsBefore, Portions}
+use Rattle.portions.specs.Course.{Course, itemsBefore, CourseIn}
 use Rattle.portions.specs.Cases.{Cases, listed, listing, keptAfter}
 use Rattle.portions.specs.Demand3.{Sweeps, fresh, steps, closed, Demand3Claims}
 use Rattle.portions.proofs.Course.{chain-and, course-claims}
@@ -81,7 +81,7 @@ module _ {A : Type 0} {m : Stepper A} {p : Cases A} (w : Sweeps m p) where
   all-items = items-listing (N * cases) (omega arith) ∙ ap (listing p) (mul-div-cancel-left cases (w .some-steps))
 
   module _ (cs : List (Called A (m .Kept))) (ch : Chain m (fresh w) cs) where
-    alike : Portions course cs
+    alike : CourseIn course cs
     alike = course-claims .portions course cs ch
 
     steps-end : steps w cs ≤ N * cases

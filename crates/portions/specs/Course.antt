@@ -30,6 +30,29 @@ pub record Course {A : Type 0} (m : Stepper A) : Type 0 where
   pub only-with-room : (t : ℕ) → t < total → uses t ≤ cond (wants t) 1 0
   pub moves : (t : ℕ) → t < total → m .next (at t) ≡ at (suc t)
 
+-- What every list of calls from the start meets, run or sweep, by a stepper m whose items have `size` numbers: `at t` is kept after t of `total` steps,
+-- `itemsOf t` are the items of the first t steps in order, and `steps` are the steps that calls make, by the stopping rule alone.
+module _ {A : Type 0} (m : Stepper A) (size total : ℕ) (at : ℕ → m .Kept) (itemsOf : ℕ → List (List A)) (steps : List (Called A (m .Kept)) → ℕ) where
+  abbrev pub OneMore : List (Called A (m .Kept)) → Called A (m .Kept) → Type 0
+  OneMore cs c = Made m (last (at 0) cs) c
+
+  -- `cs` are calls from the start, each handed what the last returned, and c is one more
+  pub record Portions (cs : List (Called A (m .Kept))) : Type 0 where
+    -- the items of the steps made, in order, none missing, none twice
+    pub items-joined : handed size cs ≡ joined (itemsOf (steps cs))
+    pub first-items : handed size cs ≡ take (length (handed size cs)) (joined (itemsOf total))
+    pub tally-ends : steps cs ≤ total
+    pub steps-sum : reported cs ≡ steps cs
+    pub kept-is : last (at 0) cs ≡ at (steps cs)
+    pub never-refused : (c : Called A (m .Kept)) → OneMore cs c → c .stop ≡ Refused → ⊥
+    pub finished-iff : (c : Called A (m .Kept)) → OneMore cs c → (c .stop ≡ Finished) ↔ (steps (and cs c) ≡ total)
+    pub all-out : (c : Called A (m .Kept)) → OneMore cs c → c .stop ≡ Finished → handed size (and cs c) ≡ joined (itemsOf total)
+    -- with steps left, an allowance and room for an item a step is made
+    pub progress : (c : Called A (m .Kept)) → OneMore cs c → steps cs < total → 1 ≤ c .allowance → size ≤ length (c .lent) → 1 ≤ c .steps
+    pub within-allowance : (c : Called A (m .Kept)) → OneMore cs c → c .steps ≤ c .allowance
+    pub within-memory : (c : Called A (m .Kept)) → OneMore cs c → size * c .count ≤ length (c .lent)
+    pub past-unchanged : (c : Called A (m .Kept)) → OneMore cs c → drop (size * c .count) (c .left) ≡ drop (size * c .count) (c .lent)
+
 module _ {A : Type 0} {m : Stepper A} (k : Course m) where
   -- the items of the first t steps, in order
   unfoldable pub itemsBefore : ℕ → List (List A)
@@ -43,21 +66,9 @@ module _ {A : Type 0} {m : Stepper A} (k : Course m) where
   abbrev pub kept : List (Called A (m .Kept)) → m .Kept
   kept cs = last (k .at 0) cs
 
-  -- `cs` are calls from the start, and c is one more
-  pub record Portions (cs : List (Called A (m .Kept))) : Type 0 where
-    pub items-joined : handed (k .itemSize) cs ≡ joined (itemsBefore (tallied cs))
-    pub first-items : handed (k .itemSize) cs ≡ take (length (handed (k .itemSize) cs)) (joined (itemsBefore (k .total)))
-    pub tally-ends : tallied cs ≤ k .total
-    pub steps-sum : reported cs ≡ tallied cs
-    pub kept-is : kept cs ≡ k .at (tallied cs)
-    pub never-refused : (c : Called A (m .Kept)) → Made m (kept cs) c → c .stop ≡ Refused → ⊥
-    pub finished-iff : (c : Called A (m .Kept)) → Made m (kept cs) c → (c .stop ≡ Finished) ↔ (tallied (and cs c) ≡ k .total)
-    pub all-out : (c : Called A (m .Kept)) → Made m (kept cs) c → c .stop ≡ Finished → handed (k .itemSize) (and cs c) ≡ joined (itemsBefore (k .total))
-    pub progress : (c : Called A (m .Kept)) → Made m (kept cs) c → tallied cs < k .total → 1 ≤ c .allowance → k .itemSize ≤ length (c .lent) → 1 ≤ c .steps
-    pub within-allowance : (c : Called A (m .Kept)) → Made m (kept cs) c → c .steps ≤ c .allowance
-    pub within-memory : (c : Called A (m .Kept)) → Made m (kept cs) c → k .itemSize * c .count ≤ length (c .lent)
-    pub past-unchanged : (c : Called A (m .Kept)) → Made m (kept cs) c → drop (k .itemSize * c .count) (c .left) ≡ drop (k .itemSize * c .count) (c .lent)
+  abbrev pub CourseIn : List (Called A (m .Kept)) → Type 0
+  CourseIn cs = Portions m (k .itemSize) (k .total) (k .at) itemsBefore tallied cs
 
 -- every list of calls
 pub record CourseClaims : Type 1 where
-  pub portions : {A : Type 0} {m : Stepper A} (k : Course m) (cs : List (Called A (m .Kept))) → Chain m (k .at 0) cs → Portions k cs
+  pub portions : {A : Type 0} {m : Stepper A} (k : Course m) (cs : List (Called A (m .Kept))) → Chain m (k .at 0) cs → CourseIn k cs

@@ -9,6 +9,8 @@ use converter::no_point;
 use flow_voltages::Found;
 use flow_voltages::find_with_currents;
 use grid::DcSwitchingSimulator;
+use grid::MOST_CABLES;
+use grid::MOST_STATIONS;
 use grid::present;
 use rules::Verdict;
 use rules::check_flow;
@@ -16,8 +18,8 @@ use rules::number;
 
 // 000's solution. What stands past the counts is zeros.
 pub struct DcGridSolution {
-    pub operating_points: [ConverterOperatingPoint; 32],
-    pub cable_losses_mw: [f64; 64],
+    pub operating_points: [ConverterOperatingPoint; MOST_STATIONS],
+    pub cable_losses_mw: [f64; MOST_CABLES],
     pub total_losses_mw: f64,
     pub converged: bool,
     pub iterations: u64,
@@ -31,7 +33,8 @@ pub struct FlowAnswer {
 
 // DcSwitchingSimulator::solve_dc_power_flow
 pub fn solve_dc_power_flow(g: DcSwitchingSimulator) -> FlowAnswer
-    ensures { λ r. ⌜ (numberOf (r .verdict) ≡ flowRefusal g) × (r .solution ≡ flowAnswer g) ⌝ }
+    ensures verdict { λ r. ⌜ numberOf (r .verdict) ≡ flowRefusal g ⌝ }
+    ensures solution { λ r. ⌜ r .solution ≡ flowAnswer g ⌝ }
 {
     let verdict = check_flow(g);
     if number(verdict) == 0 {
@@ -52,13 +55,13 @@ fn solution_at(g: DcSwitchingSimulator, found: Found) -> DcGridSolution
     requires { ⌜ found .«i_dc_ka» ≡ currentsOf g (found .voltages .«v_dc_kv») ⌝ }
     ensures { λ r. ⌜ r ≡ solutionAt g (found .voltages) ⌝ }
 {
-    let n = present(g.n_stations, 32);
-    let n_cables = present(g.n_cables, 64);
+    let n = present(g.n_stations, MOST_STATIONS);
+    let n_cables = present(g.n_cables, MOST_CABLES);
     let stations = g.stations;
     let cables = g.cables;
     let voltages = found.voltages;
     let v = voltages.v_dc_kv;
-    let mut losses = [0.0; 64];
+    let mut losses = [0.0; MOST_CABLES];
     solution::cable_losses(&mut losses, cables, n_cables, &v, n);
     let total = solution::sum_losses(&losses, n_cables);
     let currents = found.i_dc_ka;
@@ -78,8 +81,8 @@ pub fn no_solution() -> DcGridSolution
     ensures { λ r. ⌜ r ≡ blankSolution ⌝ }
 {
     DcGridSolution {
-        operating_points: [no_point(); 32],
-        cable_losses_mw: [0.0; 64],
+        operating_points: [no_point(); MOST_STATIONS],
+        cable_losses_mw: [0.0; MOST_CABLES],
         total_losses_mw: 0.0,
         converged: false,
         iterations: 0,

@@ -16,27 +16,30 @@ use float64::abs;
 use grid::ConverterStation;
 use grid::ConverterTopology;
 use grid::DcCable;
+use grid::MOST_CABLES;
+use grid::MOST_STATIONS;
 use grid::cable_resistance;
 use grid::cut_end;
 
 // The points of all stations, and a total with their losses.
 pub struct Points {
-    pub points: [ConverterOperatingPoint; 32],
+    pub points: [ConverterOperatingPoint; MOST_STATIONS],
     pub total_losses_mw: f64,
 }
 
 // From each station's voltage and current.
 pub fn operating_points(
-    stations: [ConverterStation; 32],
-    v: &[f64; 32],
-    currents: &[f64; 32],
+    stations: [ConverterStation; MOST_STATIONS],
+    v: &[f64; MOST_STATIONS],
+    currents: &[f64; MOST_STATIONS],
     n: usize,
     losses: f64,
 ) -> Points
     requires { ⌜ n ≤ 32 ⌝ }
-    ensures { λ r. ⌜ (r .points ≡ padded 32 n (λ k. operatingPoint (getD stations k blankStation) (of (now (v .entry)) k) (of (now (currents .entry)) k)) blankPoint) × (r .«total_losses_mw» ≡ addedUp losses (λ k. operatingPoint (getD stations k blankStation) (of (now (v .entry)) k) (of (now (currents .entry)) k) .«losses_mw») n) ⌝ }
+    ensures points { λ r. ⌜ r .points ≡ padded 32 n (λ k. operatingPoint (getD stations k blankStation) (of (now (v .entry)) k) (of (now (currents .entry)) k)) blankPoint ⌝ }
+    ensures losses { λ r. ⌜ r .«total_losses_mw» ≡ addedUp losses (λ k. operatingPoint (getD stations k blankStation) (of (now (v .entry)) k) (of (now (currents .entry)) k) .«losses_mw») n ⌝ }
 {
-    let mut points = [no_point(); 32];
+    let mut points = [no_point(); MOST_STATIONS];
     let mut total = losses;
     let mut i = 0;
     while i < n {
@@ -97,10 +100,10 @@ fn is_lcc(topology: ConverterTopology) -> bool
 
 // The losses of all cables, into zeros.
 pub fn cable_losses(
-    losses: &mut [f64; 64],
-    cables: [DcCable; 64],
+    losses: &mut [f64; MOST_CABLES],
+    cables: [DcCable; MOST_CABLES],
     n_cables: usize,
-    v: &[f64; 32],
+    v: &[f64; MOST_STATIONS],
     n: usize,
 )
     requires { ⌜ («n_cables» ≤ 64) × (n ≤ 32) × (losses .now ≡ blank 64 nought) ⌝ }
@@ -115,7 +118,7 @@ pub fn cable_losses(
 }
 
 // An end at or past the count is cut to the last station.
-fn cable_loss(c: DcCable, v: &[f64; 32], n: usize) -> f64
+fn cable_loss(c: DcCable, v: &[f64; MOST_STATIONS], n: usize) -> f64
     requires { ⌜ n ≤ 32 ⌝ }
     ensures { λ r. ⌜ r ≡ cableLoss n (now (v .entry)) c ⌝ }
 {
@@ -126,7 +129,7 @@ fn cable_loss(c: DcCable, v: &[f64; 32], n: usize) -> f64
     abs(i * i * r)
 }
 
-pub fn sum_losses(losses: &[f64; 64], n_cables: usize) -> f64
+pub fn sum_losses(losses: &[f64; MOST_CABLES], n_cables: usize) -> f64
     requires { ⌜ «n_cables» ≤ 64 ⌝ }
     ensures { λ r. ⌜ r ≡ sumOf (of (now (losses .entry))) «n_cables» ⌝ }
 {

@@ -12,6 +12,7 @@ use Rattle.lists.proofs.Scanning.{left, right, every-of, passed}
 use Rattle.ranges.specs.Ranges as range
 use Rattle.ranges.specs.Ranges.{realIn}
 use Rattle.grid.specs.Simulator.{stationsOf, cablesOf, breakersOf, leastTimeStep, leastDuration}
+use Rattle.float64.specs.Constants.{kilo}
 use Rattle.float64.specs.Choice.{maxOf}
 use Rattle.grid.specs.declared.parts.ConverterStation.{ConverterStation}
 use Rattle.grid.specs.declared.parts.DcCable.{DcCable}
@@ -21,7 +22,7 @@ use Rattle.grid.specs.declared.simulator.DcSwitchingSimulator.{DcSwitchingSimul
 use Rattle.part_checks.specs.PartChecks.{stationOk, cableOk, breakerOk, orderOk}
 use Rattle.rules.specs.Studies.{broken, first, faultOrder, sweepRefusal}
 use Rattle.rule_tests.specs.Rules.{tooManyParts, timeOutside, tooManySteps, stationOutside, cableOutside, breakerOutside}
-use Rattle.timing.specs.Steps.{k1000, stepsOfQuotient, stepsOf, mostSteps}
+use Rattle.timing.specs.Steps.{stepsOfQuotient, stepsOf, mostSteps}
 use Rattle.rule_claims.proofs.Claims.{refusal-claims}
 use Rattle.rule_claims.proofs.Deciding.{decides}
 use Rattle.sheet_lines.specs.declared.line.SheetLine.{SheetLine}
@@ -89,7 +90,7 @@ same-rules x g s e k =
     eqb (s .«n_cables» i) 0 ∷
     (ltb 32 (s .«n_stations» i) || ltb 64 (s .«n_cables» i) || ltb 32 (s .«n_breakers» i)) ∷
     not (realIn range.timeStep (s .«dt_us» i) && realIn range.duration (s .«duration_ms» i)) ∷
-    ltb mostSteps (stepsOfQuotient (div binary64 (maxOf (s .«duration_ms» i) leastDuration) (div binary64 (maxOf (s .«dt_us» i) leastTimeStep) k1000))) ∷
+    ltb mostSteps (stepsOfQuotient (div binary64 (maxOf (s .«duration_ms» i) leastDuration) (div binary64 (maxOf (s .«dt_us» i) leastTimeStep) kilo))) ∷
     not (every stationOk (s .stations i)) ∷
     not (every cableOk (s .cables i)) ∷
     not (every breakerOk (s .breakers i)) ∷

@@ -14,7 +14,7 @@ use borrow.Author.Tests.{ltb-true}
 use Rattle.float64.specs.Choice.{maxOf}
 use Rattle.ranges.specs.Ranges as range
 use Rattle.ranges.specs.Ranges.{realIn}
-use Rattle.grid.specs.Simulator.{blankStation, blankCable, blankBreaker, leastTimeStep, leastDuration, keptTimeStep, keptDuration, newSimulator, added, full, withStation, withCable, withBreaker}
+use Rattle.grid.specs.Simulator.{blankStation, blankCable, blankBreaker, leastTimeStep, leastDuration, keptTimeStep, keptDuration, newSimulator, added, withoutRoom, withStation, withCable, withBreaker}
 use Rattle.grid.specs.declared.parts.ConverterStation.{ConverterStation}
 use Rattle.grid.specs.declared.parts.DcCable.{DcCable}
 use Rattle.grid.specs.declared.parts.DcBreaker.{DcBreaker}
@@ -70,7 +70,7 @@ blanks-more z x m n l w h e =
 
 module _ (g : DcSwitchingSimulator) (made : Made g) (blank : BlankPast g) where
   -- the grid with the part, or the same grid
-  kept-by : (t : Bool) (x : DcSwitchingSimulator) → (t ≡ true → Made x × BlankPast x) → Made (cond t (added x) (full g) .grid) × BlankPast (cond t (added x) (full g) .grid)
+  kept-by : (t : Bool) (x : DcSwitchingSimulator) → (t ≡ true → Made x × BlankPast x) → Made (cond t (added x) (withoutRoom g) .grid) × BlankPast (cond t (added x) (withoutRoom g) .grid)
   kept-by true x f = f refl
   kept-by false x f = (made, blank)
 

@@ -9,6 +9,9 @@ ghost use Rattle.lists.specs.Tables.{tab};
 ghost use Rattle.float64.specs.Arithmetic.{of};
 ghost use Rattle.records.specs.Records.{closedNumber, Counted, countsOf, numbersIn, recordBy, fitsIn, puts};
 use grid::DcSwitchingSimulator;
+use grid::MOST_BREAKERS;
+use grid::MOST_CABLES;
+use grid::MOST_STATIONS;
 use grid::present;
 use state_derivatives::DcTransientState;
 
@@ -23,9 +26,9 @@ pub fn record_counts(g: DcSwitchingSimulator) -> RecordCounts
     ensures { λ r. ⌜ r ≡ countsOf g ⌝ }
 {
     RecordCounts {
-        stations: present(g.n_stations, 32),
-        cables: present(g.n_cables, 64),
-        breakers: present(g.n_breakers, 32),
+        stations: present(g.n_stations, MOST_STATIONS),
+        cables: present(g.n_cables, MOST_CABLES),
+        breakers: present(g.n_breakers, MOST_BREAKERS),
     }
 }
 
@@ -37,7 +40,8 @@ pub fn put_if_recorded(
     state: DcTransientState,
     counts: RecordCounts,
 ) -> usize
-    ensures { λ r. ⌜ (r ≡ cond (puts recorded counts at (length (now (records .entry)))) 1 0) × (now (records .exit) ≡ sets (now (records .entry)) at (cond (puts recorded counts at (length (now (records .entry)))) (recordBy counts state) [])) ⌝ }
+    ensures answer { λ r. ⌜ r ≡ cond (puts recorded counts at (length (now (records .entry)))) 1 0 ⌝ }
+    ensures memory { λ _. ⌜ now (records .exit) ≡ sets (now (records .entry)) at (cond (puts recorded counts at (length (now (records .entry)))) (recordBy counts state) []) ⌝ }
 {
     if recorded & fits(counts, at, records.len()) {
         put_record(records, at, state, counts);
@@ -50,13 +54,13 @@ pub fn put_if_recorded(
 fn fits(counts: RecordCounts, at: usize, len: usize) -> bool
     ensures { λ r. ⌜ r ≡ fitsIn counts at len ⌝ }
 {
-    if 32 < counts.stations {
+    if MOST_STATIONS < counts.stations {
         return false;
     }
-    if 64 < counts.cables {
+    if MOST_CABLES < counts.cables {
         return false;
     }
-    if 32 < counts.breakers {
+    if MOST_BREAKERS < counts.breakers {
         return false;
     }
     if len < at {
@@ -101,7 +105,7 @@ fn put_numbers(records: &mut [f64], at: usize, numbers: &[f64], first: usize, n:
 }
 
 // 1 closed, 0 open.
-fn put_breakers(records: &mut [f64], at: usize, breakers: &[bool; 32], n: usize)
+fn put_breakers(records: &mut [f64], at: usize, breakers: &[bool; MOST_BREAKERS], n: usize)
     requires { ⌜ (at + n ≤ length (now records)) × (n ≤ 32) ⌝ }
     ensures { λ _. ⌜ now (records .exit) ≡ sets (now (records .entry)) at (tab n (λ i. closedNumber (getD (now (breakers .entry)) i false))) ⌝ }
 {

@@ -9,13 +9,14 @@ ghost use Rattle.float64.specs.Arithmetic.{of, _⊗_};
 ghost use Rattle.recovery.specs.Constants.{recoveredPart};
 ghost use Rattle.recovery.specs.Recovery.{recovering};
 use float64::min;
+use grid::MOST_STATIONS;
 use grid::present;
 
 // Each voltage a step nearer to the rated one.
 pub fn recover_voltages(y: &mut [f64; 96], rated: &[f64; 96], n_stations: usize)
     ensures { λ _. ⌜ now (y .exit) ≡ over (min «n_stations» 32) (λ i. recovering (of (now (rated .entry)) i) (of (now (y .entry)) i)) nan (now (y .entry)) ⌝ }
 {
-    let n = present(n_stations, 32);
+    let n = present(n_stations, MOST_STATIONS);
     let mut i = 0;
     while i < n {
         y[i] = recovered(y[i], rated[i]);
@@ -37,7 +38,7 @@ fn recovered(v: f64, rated: f64) -> f64
 pub fn all_recovered(y: &[f64; 96], rated: &[f64; 96], n_stations: usize) -> bool
     ensures { λ r. ⌜ r ≡ each (min «n_stations» 32) (λ i. le (recoveredPart ⊗ of (now (rated .entry)) i) (of (now (y .entry)) i)) ⌝ }
 {
-    let n = present(n_stations, 32);
+    let n = present(n_stations, MOST_STATIONS);
     let mut i = 0;
     while i < n {
         if has_recovered(y[i], rated[i]) {
@@ -59,7 +60,7 @@ fn has_recovered(v: f64, rated: f64) -> bool
 pub fn none_below(y: &[f64; 96], rated: &[f64; 96], n_stations: usize) -> bool
     ensures { λ r. ⌜ r ≡ each (min «n_stations» 32) (λ i. not (lt (of (now (y .entry)) i) (of (now (rated .entry)) i))) ⌝ }
 {
-    let n = present(n_stations, 32);
+    let n = present(n_stations, MOST_STATIONS);
     let mut i = 0;
     while i < n {
         if y[i] < rated[i] {

@@ -11,6 +11,7 @@ use lib.IntN.{ℤ}
 use lib.Ieee.{Float, fin, binary64, up, down, ofBits, ofInt, round, add, mul, div, lt, le, eq}
 use lib.Ieee.Fits.{down-pos}
 use Rattle.lists.proofs.Scanning.{left, right}
+use Rattle.float64.specs.Constants.{kilo}
 use Rattle.float64.proofs.Range.{UpTo, from-range, times, plus, over}
 use Rattle.ranges.proofs.InRange.{in-range}
 use Rattle.ranges.specs.Ranges as range
@@ -18,16 +19,15 @@ use Rattle.ranges.specs.Ranges.{realIn}
 use Rattle.grid.specs.declared.parts.DcBreakerType.{DcBreakerType}
 use Rattle.grid.specs.declared.parts.DcBreakerType.the-variants.{Mechanical, SolidState, HybridBreaker}
 use Rattle.grid.specs.declared.parts.DcBreaker.{DcBreaker}
-use Rattle.timing.specs.Steps.{k1000}
 use Rattle.breaker_times.specs.Breakers.{k03, largest, clearingTimeOf}
 use Rattle.breaker_times.specs.Claims.{timed}
 use Rattle.part_checks.specs.PartChecks.{breakerTypeOk, breakerOk}
 
 -- ---- the two operations with a constant that a clearing time takes
 
-over-1000 : (x : Float) → UpTo 100000 x → UpTo 100 (div binary64 x k1000)
+over-1000 : (x : Float) → UpTo 100000 x → UpTo 100 (div binary64 x kilo)
 unfolding ofBits
-over-1000 x u = over 100 1000 x k1000 (omega arith) tt (lit≤ tt) u
+over-1000 x u = over 100 1000 x kilo (omega arith) tt (lit≤ tt) u
 
 times-0-3 : (x : Float) → UpTo 100000 x → UpTo 100000 (mul binary64 x k03)
 unfolding ofBits le lt eq ofInt round
@@ -60,11 +60,11 @@ accepted-type : (b : DcBreakerType) → breakerTypeOk b ≡ true → lt (clearin
 unfolding breakerTypeOk clearingTimeOf
 accepted-type (Mechanical opening) h = timed-up-to 100000 opening (omega arith) (in-range 100000 (omega arith) opening h)
 accepted-type (SolidState turnOff loss) h =
-    timed-up-to 100 (div binary64 turnOff k1000) (omega arith)
+    timed-up-to 100 (div binary64 turnOff kilo) (omega arith)
     (over-1000 turnOff (in-range 100000 (omega arith) turnOff (left (realIn range.turnOffTime turnOff) (realIn range.onStateLoss loss) h)))
 accepted-type (HybridBreaker opening commutation) h =
-    timed-up-to 100100 (add binary64 (div binary64 commutation k1000) (mul binary64 opening k03)) (omega arith)
-    (plus 100 100000 (div binary64 commutation k1000) (mul binary64 opening k03) (omega arith)
+    timed-up-to 100100 (add binary64 (div binary64 commutation kilo) (mul binary64 opening k03)) (omega arith)
+    (plus 100 100000 (div binary64 commutation kilo) (mul binary64 opening k03) (omega arith)
     (over-1000 commutation (in-range 100000 (omega arith) commutation (right (realIn range.openingTime opening) (realIn range.commutationTime commutation) h)))
     (times-0-3 opening (in-range 100000 (omega arith) opening (left (realIn range.openingTime opening) (realIn range.commutationTime commutation) h))))
 

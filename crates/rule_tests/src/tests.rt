@@ -2,6 +2,9 @@
 ghost use mathlib.Core.Path.{_≡_};
 ghost use Rattle.rule_tests.specs.Rules.{tooManyParts, timeOutside, tooManySteps, stationOutside, cableOutside, breakerOutside};
 use grid::DcSwitchingSimulator;
+use grid::MOST_BREAKERS;
+use grid::MOST_CABLES;
+use grid::MOST_STATIONS;
 use grid::present;
 use ranges::in_range;
 use timing::MOST_STEPS;
@@ -10,7 +13,7 @@ use timing::total_steps;
 pub fn too_many_parts(g: DcSwitchingSimulator) -> bool
     ensures { λ r. ⌜ r ≡ tooManyParts g ⌝ }
 {
-    (32 < g.n_stations) | (64 < g.n_cables) | (32 < g.n_breakers)
+    (MOST_STATIONS < g.n_stations) | (MOST_CABLES < g.n_cables) | (MOST_BREAKERS < g.n_breakers)
 }
 
 pub fn time_outside(g: DcSwitchingSimulator) -> bool
@@ -30,17 +33,17 @@ pub fn too_many_steps(g: DcSwitchingSimulator) -> bool
 pub fn station_outside(g: DcSwitchingSimulator) -> bool
     ensures { λ r. ⌜ r ≡ stationOutside g ⌝ }
 {
-    part_positions::first_bad_station(g) < present(g.n_stations, 32)
+    part_positions::first_bad_station(g) < present(g.n_stations, MOST_STATIONS)
 }
 
 pub fn cable_outside(g: DcSwitchingSimulator) -> bool
     ensures { λ r. ⌜ r ≡ cableOutside g ⌝ }
 {
-    part_positions::first_bad_cable(g) < present(g.n_cables, 64)
+    part_positions::first_bad_cable(g) < present(g.n_cables, MOST_CABLES)
 }
 
 pub fn breaker_outside(g: DcSwitchingSimulator) -> bool
     ensures { λ r. ⌜ r ≡ breakerOutside g ⌝ }
 {
-    part_positions::first_bad_breaker(g) < present(g.n_breakers, 32)
+    part_positions::first_bad_breaker(g) < present(g.n_breakers, MOST_BREAKERS)
 }

@@ -5,6 +5,8 @@ ghost use Prim.Native.Nat.{min};
 ghost use Rattle.lists.specs.Tables.{padded};
 ghost use Rattle.run_start.specs.Start.{timeAt, ratedOf};
 use grid::DcSwitchingSimulator;
+use grid::MOST_BREAKERS;
+use grid::MOST_STATIONS;
 use grid::present;
 use std::num::nearest_u64_to_f64;
 
@@ -20,7 +22,7 @@ pub fn rated_voltages(g: DcSwitchingSimulator) -> [f64; 96]
     ensures { λ r. ⌜ r ≡ ratedOf g ⌝ }
 {
     let stations = g.stations;
-    let n = present(g.n_stations, 32);
+    let n = present(g.n_stations, MOST_STATIONS);
     let mut y = [0.0; 96];
     let mut i = 0;
     while i < n {
@@ -32,11 +34,11 @@ pub fn rated_voltages(g: DcSwitchingSimulator) -> [f64; 96]
 }
 
 // So many breakers, all closed or all open; open past them.
-pub fn breakers_all(n_breakers: usize, closed: bool) -> [bool; 32]
+pub fn breakers_all(n_breakers: usize, closed: bool) -> [bool; MOST_BREAKERS]
     ensures { λ r. ⌜ r ≡ padded 32 (min «n_breakers» 32) (λ _. closed) false ⌝ }
 {
-    let n = present(n_breakers, 32);
-    let mut breakers = [false; 32];
+    let n = present(n_breakers, MOST_BREAKERS);
+    let mut breakers = [false; MOST_BREAKERS];
     let mut i = 0;
     while i < n {
         breakers[i] = closed;

@@ -69,19 +69,22 @@ module _ {m : Stepper Float} {g : DcSwitchingSimulator} {Vars : Type 0} (k : Kin
     in-portions cs chain =
         let p = course-claims .portions course cs chain in
         record {
-          records-joined = p .items-joined ∙ ap joined (states-are _);
-          first-records = p .first-items ∙ ap (λ (l : List (List Float)). take (length (handed (recordLength g) cs)) (joined l)) (states-are N);
-          steps-sum = p .steps-sum;
-          tally-ends = p .tally-ends;
-          kept-is = p .kept-is;
-          never-refused = p .never-refused;
-          finished-iff = p .finished-iff;
-          all-out = λ c made h. p .all-out c made h ∙ ap joined (states-are N);
+          portions =
+              record {
+                items-joined = p .items-joined ∙ ap joined (states-are _);
+                first-items = p .first-items ∙ ap (λ (l : List (List Float)). take (length (handed (recordLength g) cs)) (joined l)) (states-are N);
+                tally-ends = p .tally-ends;
+                steps-sum = p .steps-sum;
+                kept-is = p .kept-is;
+                never-refused = p .never-refused;
+                finished-iff = p .finished-iff;
+                all-out = λ c made h. p .all-out c made h ∙ ap joined (states-are N);
+                progress = p .progress;
+                within-allowance = p .within-allowance;
+                within-memory = p .within-memory;
+                past-unchanged = p .past-unchanged;
+              };
           final-figures = λ c made h.
               let q = course-claims .portions course (and cs c) (chain-and m (at 0) cs c chain made) in
               ap figures (sym (last-and (at 0) cs c) ∙ q .kept-is ∙ ap at (p .finished-iff c made .0 h)) ∙ finally;
-          progress = p .progress;
-          within-allowance = p .within-allowance;
-          within-memory = p .within-memory;
-          past-unchanged = p .past-unchanged;
         }

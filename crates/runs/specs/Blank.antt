@@ -1,24 +1,14 @@
--- What stands beside a refusal: zeros and no. Definitions only.
+-- What stands beside a refusal: all zero and false. Definitions only.
 use mathlib.Core.Bool.{false}
-use lib.ListN.{replicate}
 use Rattle.lists.specs.Tables.{blank}
 use Rattle.float64.specs.Constants.{nought}
-use Rattle.grid.specs.Simulator.{blankStation, blankCable, blankBreaker}
+use Rattle.grid.specs.Simulator.{withoutParts}
 use Rattle.grid.specs.declared.simulator.DcSwitchingSimulator.{DcSwitchingSimulator}
 use Rattle.state_derivatives.specs.declared.state.DcTransientState.{DcTransientState}
 
+-- no parts, and a time step and a duration of zero, which `new` would raise
 abbrev pub blankGrid : DcSwitchingSimulator
-blankGrid =
-    record {
-      stations = replicate 32 blankStation;
-      cables = replicate 64 blankCable;
-      breakers = replicate 32 blankBreaker;
-      «n_stations» = 0;
-      «n_cables» = 0;
-      «n_breakers» = 0;
-      «dt_us» = nought;
-      «duration_ms» = nought;
-    }
+blankGrid = withoutParts nought nought
 
 abbrev pub blankState : DcTransientState
 blankState =

@@ -1,10 +1,12 @@
-// What a refused run holds: zeros and no.
+// What a refused run holds: all zero and false.
 ghost use mathlib.Core.Path.{_≡_};
 ghost use Rattle.runs.specs.Blank.{blankGrid, blankState};
 use grid::DcSwitchingSimulator;
+use grid::MOST_BREAKERS;
+use grid::MOST_STATIONS;
 use state_derivatives::DcTransientState;
 
-// `new` raises both times.
+// `new` raises both times, so they are set again.
 pub fn blank_grid() -> DcSwitchingSimulator
     ensures { λ r. ⌜ r ≡ blankGrid ⌝ }
 {
@@ -18,8 +20,8 @@ pub fn blank_state() -> DcTransientState
     ensures { λ r. ⌜ r ≡ blankState ⌝ }
 {
     let y = [0.0; 96];
-    let station_currents_ka = [0.0; 32];
-    let breaker_states = [false; 32];
+    let station_currents_ka = [0.0; MOST_STATIONS];
+    let breaker_states = [false; MOST_BREAKERS];
     DcTransientState {
         time_ms: 0.0,
         y,

@@ -1,9 +1,10 @@
 -- What the code works out once for a run, and the setting that this gives. Definitions only: a caller needs Switching alone; Claims says that the steps are the
 -- same.
-use Prim.Native.Nat.{ℕ, min}
+use Prim.Native.Nat.{ℕ}
 use mathlib.Core.Bool.{Bool}
 use Rattle.float64.specs.Constants.{milli}
 use Rattle.float64.specs.Arithmetic.{_⊗_}
+use Rattle.grid.specs.Simulator.{breakerCount}
 use Rattle.grid.specs.declared.simulator.DcSwitchingSimulator.{DcSwitchingSimulator}
 use Rattle.timing.specs.Steps.{timeStepMs, durationMs}
 use Rattle.network.specs.Network.{networkOf, noDrain, stationCount, cableCount}
@@ -17,7 +18,7 @@ unfoldable pub switchingPlanOf : DcSwitchingSimulator → ℕ → Bool → Switc
 switchingPlanOf g number opens =
     record {
       network = networkOf g;
-      «n_breakers» = min (g .«n_breakers») 32;
+      «n_breakers» = breakerCount (g .«n_breakers»);
       «breaker_id» = number;
       «open» = opens;
       «dt_ms» = timeStepMs g;
@@ -29,7 +30,7 @@ switchSettingWith p =
     record {
       stations = stationCount (p .network .«n_stations»);
       cables = cableCount (p .network .«n_cables»);
-      breakers = min (p .«n_breakers») 32;
+      breakers = breakerCount (p .«n_breakers»);
       number = p .«breaker_id»;
       opens = p .«open»;
       dt = p .«dt_ms»;

@@ -1,5 +1,5 @@
--- The loop of 000's `simulate_switching`: its body as a function on its variables, and the variables as before it. Definitions only.
-use Prim.Native.Nat.{ℕ, zero, suc, _+_, _-_, min}
+-- The loop of 000's `simulate_switching`: its body as a function on its variables, and their initial values. Definitions only.
+use Prim.Native.Nat.{ℕ, zero, suc, _+_, _-_}
 use mathlib.Core.Bool.{Bool, false, not, _&&_, _||_, cond}
 use mathlib.Core.List.{List}
 use lib.Dec.{eqb, ltb, leb}
@@ -8,7 +8,7 @@ use lib.Ieee.{Float, nan, le}
 use Rattle.lists.specs.Tables.{blank, over, padded}
 use Rattle.float64.specs.Constants.{nought, half, milli}
 use Rattle.float64.specs.Arithmetic.{_⊖_, _⊗_, _⊘_, of}
-use Rattle.grid.specs.Simulator.{blankCable}
+use Rattle.grid.specs.Simulator.{blankCable, breakerCount}
 use Rattle.grid.specs.Cables.{resistance, cut}
 use Rattle.grid.specs.declared.parts.ConverterStation.{ConverterStation}
 use Rattle.grid.specs.declared.parts.DcCable.{DcCable}
@@ -74,7 +74,7 @@ module _ (z : SwitchSetting) where
 
 -- ---- of a grid
 
--- what 000 has before its loop
+-- what 000 works out ahead of its loop
 abbrev pub switchSettingOf : DcSwitchingSimulator → ℕ → Bool → SwitchSetting
 switchSettingOf g number opens =
     record {
@@ -99,7 +99,7 @@ drivenCurrent stations n c = (rated stations (cut n (c .«from_station»)) ⊖ r
 abbrev pub driven : List ConverterStation → List DcCable → ℕ → ℕ → Float
 driven stations cables n i = cond (ltb i n) (rated stations i) (drivenCurrent stations n (getD cables (i - n) blankCable))
 
--- 000's variables as before its loop: "breakers begin at the state that the operation then sets"
+-- the initial values of 000's variables: "breakers begin at the state that the operation then sets"
 unfoldable pub beforeSwitching : DcSwitchingSimulator → Bool → SwitchingVariables
 beforeSwitching g opens =
     record {
@@ -109,7 +109,7 @@ beforeSwitching g opens =
             y = padded 96 (stationCount (g .«n_stations») + cableCount (g .«n_cables»)) (driven (g .stations) (g .cables) (stationCount (g .«n_stations»))) nought;
             «station_currents_ka» = blank 32 nought;
             «fault_current_ka» = nought;
-            «breaker_states» = padded 32 (min (g .«n_breakers») 32) (λ _. not opens) false;
+            «breaker_states» = padded 32 (breakerCount (g .«n_breakers»)) (λ _. not opens) false;
           };
       switched = false;
     }

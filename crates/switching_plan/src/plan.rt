@@ -1,4 +1,4 @@
-// What 000's simulate_switching has before its loop: what does not change in it, and the variables.
+// What 000's simulate_switching works out ahead of its loop: what does not change in it, and the variables' initial values.
 ghost use mathlib.Core.Path.{_≡_};
 ghost use Prim.Native.Nat.{_+_, _≤_};
 ghost use Rattle.lists.specs.Tables.{padded};
@@ -10,6 +10,9 @@ use crate::variables::SwitchingVariables;
 use grid::ConverterStation;
 use grid::DcCable;
 use grid::DcSwitchingSimulator;
+use grid::MOST_BREAKERS;
+use grid::MOST_CABLES;
+use grid::MOST_STATIONS;
 use grid::cable_resistance;
 use grid::cut_end;
 use grid::present;
@@ -36,7 +39,7 @@ pub fn switching_plan(g: DcSwitchingSimulator, breaker_id: u64, open: bool) -> S
 {
     SwitchingPlan {
         network: network_of(g),
-        n_breakers: present(g.n_breakers, 32),
+        n_breakers: present(g.n_breakers, MOST_BREAKERS),
         breaker_id,
         open,
         dt_ms: time_step_ms(g),
@@ -44,16 +47,22 @@ pub fn switching_plan(g: DcSwitchingSimulator, breaker_id: u64, open: bool) -> S
     }
 }
 
-// 000's variables as before its loop: rated voltages, the currents that they drive, and the breakers at the state that the operation then sets.
+// The initial values of 000's variables: rated voltages, the currents that they drive, and the breakers at the state that the operation then sets.
 pub fn first_switching_variables(g: DcSwitchingSimulator, open: bool) -> SwitchingVariables
     ensures { λ r. ⌜ r ≡ beforeSwitching g «open» ⌝ }
 {
     let stations = g.stations;
     let cables = g.cables;
-    let n = present(g.n_stations, 32);
+    let n = present(g.n_stations, MOST_STATIONS);
     let mut y = rated_voltages(g);
-    drive_currents(&mut y, stations, n, cables, present(g.n_cables, 64));
-    let station_currents_ka = [0.0; 32];
+    drive_currents(
+        &mut y,
+        stations,
+        n,
+        cables,
+        present(g.n_cables, MOST_CABLES),
+    );
+    let station_currents_ka = [0.0; MOST_STATIONS];
     let state = DcTransientState {
         time_ms: 0.0,
         y,
@@ -70,9 +79,9 @@ pub fn first_switching_variables(g: DcSwitchingSimulator, open: bool) -> Switchi
 // The current that rated voltages drive through each cable, after the voltages.
 fn drive_currents(
     y: &mut [f64; 96],
-    stations: [ConverterStation; 32],
+    stations: [ConverterStation; MOST_STATIONS],
     n: usize,
-    cables: [DcCable; 64],
+    cables: [DcCable; MOST_CABLES],
     m: usize,
 )
     requires { ⌜ (n ≤ 32) × (m ≤ 64) × (y .now ≡ padded 96 n (λ i. rated stations i) nought) ⌝ }
@@ -87,7 +96,7 @@ fn drive_currents(
 }
 
 // Its ends are cut to the last station.
-fn driven_current(stations: [ConverterStation; 32], n: usize, c: DcCable) -> f64
+fn driven_current(stations: [ConverterStation; MOST_STATIONS], n: usize, c: DcCable) -> f64
     requires { ⌜ n ≤ 32 ⌝ }
     ensures { λ r. ⌜ r ≡ drivenCurrent stations n c ⌝ }
 {

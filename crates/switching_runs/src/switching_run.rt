@@ -47,7 +47,8 @@ fn switching_run_refused(run: SwitchingRun) -> bool
 impl SwitchingRun {
     // Makes at most `allowance` steps one by one, and writes the records of those that are recorded.
     pub fn advance(self, allowance: u64, records: &mut [f64]) -> AdvancedSwitchingRun
-        ensures { λ r. ⌜ (r ≡ advancedSwitchingRun self allowance (now (records .entry))) × (now (records .exit) ≡ memoryOf switchingStepper self allowance (now (records .entry))) ⌝ }
+        ensures answer { λ r. ⌜ r ≡ advancedSwitchingRun self allowance (now (records .entry)) ⌝ }
+        ensures memory { λ _. ⌜ now (records .exit) ≡ memoryOf switchingStepper self allowance (now (records .entry)) ⌝ }
     {
         if switching_run_refused(self) {
             return AdvancedSwitchingRun {

@@ -22,7 +22,8 @@ pub fn simulate_switching(
     breaker_id: u64,
     open: bool,
 ) -> StartedSwitchingRun
-    ensures { λ r. ⌜ (numberOf (r .verdict) ≡ switchingRefusal g) × (r .run ≡ startedSwitchingRun g «breaker_id» «open») ⌝ }
+    ensures verdict { λ r. ⌜ numberOf (r .verdict) ≡ switchingRefusal g ⌝ }
+    ensures run { λ r. ⌜ r .run ≡ startedSwitchingRun g «breaker_id» «open» ⌝ }
 {
     let verdict = check_switching(g);
     if rules::number(verdict) == 0 {

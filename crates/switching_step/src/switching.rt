@@ -5,6 +5,9 @@ ghost use Prim.Native.Nat.{_≤_, min};
 ghost use Rattle.network.specs.Network.{stationCount, cableCount};
 ghost use Rattle.switching_plan.specs.Switching.{isOperated, breakersAfter, interrupted};
 ghost use Rattle.switching_plan.specs.Plans.{switchingPlanStep};
+use grid::MOST_BREAKERS;
+use grid::MOST_CABLES;
+use grid::MOST_STATIONS;
 use grid::present;
 use network::no_drain;
 use run_start::step_time_ms;
@@ -54,7 +57,7 @@ pub fn switching_step(plan: SwitchingPlan, step: u64, v: SwitchingVariables) -> 
 
 // Sets the breaker of a number, or all where the grid has none of that number.
 fn operate(
-    breakers: &mut [bool; 32],
+    breakers: &mut [bool; MOST_BREAKERS],
     switches: bool,
     breaker_id: u64,
     n_breakers: usize,
@@ -63,11 +66,16 @@ fn operate(
     ensures { λ _. ⌜ now (breakers .exit) ≡ cond switches (breakersAfter (min «n_breakers» 32) «breaker_id» «open» (now (breakers .entry))) (now (breakers .entry)) ⌝ }
 {
     if switches {
-        set_operated(breakers, present(n_breakers, 32), breaker_id, open);
+        set_operated(
+            breakers,
+            present(n_breakers, MOST_BREAKERS),
+            breaker_id,
+            open,
+        );
     }
 }
 
-fn set_operated(breakers: &mut [bool; 32], n: usize, breaker_id: u64, open: bool)
+fn set_operated(breakers: &mut [bool; MOST_BREAKERS], n: usize, breaker_id: u64, open: bool)
     requires { ⌜ n ≤ 32 ⌝ }
     ensures { λ _. ⌜ now (breakers .exit) ≡ breakersAfter n «breaker_id» «open» (now (breakers .entry)) ⌝ }
 {
@@ -92,7 +100,11 @@ fn interrupt(y: &mut [f64; 96], opens: bool, n_stations: usize, n_cables: usize)
     ensures { λ _. ⌜ now (y .exit) ≡ cond opens (interrupted (stationCount «n_stations») (cableCount «n_cables») (now (y .entry))) (now (y .entry)) ⌝ }
 {
     if opens {
-        halve_currents(y, present(n_stations, 32), present(n_cables, 64));
+        halve_currents(
+            y,
+            present(n_stations, MOST_STATIONS),
+            present(n_cables, MOST_CABLES),
+        );
     }
 }
 

@@ -1,26 +1,18 @@
 -- The time of a run: its steps, and which of them are recorded. Definitions only.
 use Prim.Native.Nat.{ℕ, zero, suc, _+_, _-_, _*_, _/_, _%_, _^_, max, min}
 use mathlib.Core.Bool.{Bool, true, false, _||_, cond}
-use mathlib.Core.Path.{_≡_, refl}
 use lib.Dec.{eqb}
 use lib.ListN.{length}
 use lib.IntN.{pos}
-use lib.Ieee.{Float, nan, inf, fin, binary64, up, down, ofBits, ofInt, round, mul, div}
-use Rattle.float64.specs.Constants.{decimal}
+use lib.Ieee.{Float, nan, inf, fin, binary64, up, down, ofInt, mul, div}
+use Rattle.float64.specs.Constants.{kilo}
 use Rattle.float64.specs.Choice.{maxOf}
 use Rattle.grid.specs.Simulator.{leastTimeStep, leastDuration, stationsOf, cablesOf, breakersOf}
 use Rattle.grid.specs.declared.simulator.DcSwitchingSimulator.{DcSwitchingSimulator}
 
-abbrev pub k1000 : Float
-k1000 = ofBits binary64 0x408f_4000_0000_0000
-
-pub k1000-is : k1000 ≡ decimal 1000 1
-unfolding ofBits round
-k1000-is = refl
-
 -- what a study uses of the time step, in milliseconds, and of the duration: both raised, also where the grid was put together by hand
 abbrev pub timeStepMs : DcSwitchingSimulator → Float
-timeStepMs g = div binary64 (maxOf (g .«dt_us») leastTimeStep) k1000
+timeStepMs g = div binary64 (maxOf (g .«dt_us») leastTimeStep) kilo
 
 abbrev pub durationMs : DcSwitchingSimulator → Float
 durationMs g = maxOf (g .«duration_ms») leastDuration

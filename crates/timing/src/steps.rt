@@ -5,6 +5,9 @@ ghost use Rattle.timing.specs.Steps.{timeStepMs, durationMs, stepsOf, st
 use grid::DcSwitchingSimulator;
 use grid::LEAST_DURATION_MS;
 use grid::LEAST_TIME_STEP_US;
+use grid::MOST_BREAKERS;
+use grid::MOST_CABLES;
+use grid::MOST_STATIONS;
 use grid::present;
 
 pub const MOST_STEPS: u64 = 1000000;
@@ -87,5 +90,8 @@ pub fn recorded_steps(total_steps: u64) -> u64
 pub fn record_length(g: DcSwitchingSimulator) -> usize
     ensures { λ r. ⌜ r ≡ recordLength g ⌝ }
 {
-    2 + 2 * present(g.n_stations, 32) + present(g.n_cables, 64) + present(g.n_breakers, 32)
+    2
+        + 2 * present(g.n_stations, MOST_STATIONS)
+        + present(g.n_cables, MOST_CABLES)
+        + present(g.n_breakers, MOST_BREAKERS)
 }

@@ -8,19 +8,20 @@ ghost use Rattle.voltage_moves.specs.Moves as specs;
 ghost use Rattle.voltage_moves.specs.Moves.{movedAll, movedTo, sumWithout};
 use float64::abs;
 use float64::clamp;
+use grid::MOST_STATIONS;
 use grid::present;
 
 // A pass's voltages after it, from mismatches d that were all taken before it and the conductances m. A count past the arrays takes all of them.
 pub fn move_voltages(
-    v: &mut [f64; 32],
-    rated: &[f64; 32],
-    d: &[f64; 32],
+    v: &mut [f64; MOST_STATIONS],
+    rated: &[f64; MOST_STATIONS],
+    d: &[f64; MOST_STATIONS],
     m: &[f64; 1024],
     n_stations: usize,
 )
     ensures { λ _. ⌜ now (v .exit) ≡ movedAll (now (m .entry)) (min «n_stations» 32) (now (rated .entry)) (now (d .entry)) (now (v .entry)) ⌝ }
 {
-    let n = present(n_stations, 32);
+    let n = present(n_stations, MOST_STATIONS);
     if n == 2 {
         let q = 2.0 * m[33] * v[1] + m[32] * v[0];
         v[1] = moved(v[1], d[1], q);
@@ -30,7 +31,13 @@ pub fn move_voltages(
 }
 
 // The divisor of a station sees the stations before it as they have moved.
-fn move_each(v: &mut [f64; 32], rated: &[f64; 32], d: &[f64; 32], m: &[f64; 1024], n: usize)
+fn move_each(
+    v: &mut [f64; MOST_STATIONS],
+    rated: &[f64; MOST_STATIONS],
+    d: &[f64; MOST_STATIONS],
+    m: &[f64; 1024],
+    n: usize,
+)
     requires { ⌜ n ≤ 32 ⌝ }
     ensures { λ _. ⌜ now (v .exit) ≡ movedTo (now (m .entry)) n (now (rated .entry)) (now (d .entry)) (now (v .entry)) (n - 1) ⌝ }
 {
@@ -43,19 +50,19 @@ fn move_each(v: &mut [f64; 32], rated: &[f64; 32], d: &[f64; 32], m: &[f64; 1024
     }
 }
 
-fn divisor(m: &[f64; 1024], v: &[f64; 32], i: usize, n: usize) -> f64
+fn divisor(m: &[f64; 1024], v: &[f64; MOST_STATIONS], i: usize, n: usize) -> f64
     requires { ⌜ (i < n) × (n ≤ 32) ⌝ }
     ensures { λ r. ⌜ r ≡ specs.divisor (now (m .entry)) n (now (v .entry)) i ⌝ }
 {
     let below = add_products(m, v, i, 0, i, 0.0);
     let others = add_products(m, v, i, i + 1, n, below);
-    2.0 * m[i * 32 + i] * v[i] + others
+    2.0 * m[i * MOST_STATIONS + i] * v[i] + others
 }
 
 // Adds the products of row i from one column up to another, neither of them i.
 fn add_products(
     m: &[f64; 1024],
-    v: &[f64; 32],
+    v: &[f64; MOST_STATIONS],
     i: usize,
     first: usize,
     end: usize,
@@ -67,7 +74,7 @@ fn add_products(
     let mut sum = start;
     let mut j = first;
     while j < end {
-        sum = sum + m[i * 32 + j] * v[j];
+        sum = sum + m[i * MOST_STATIONS + j] * v[j];
         j += 1;
     }
     sum

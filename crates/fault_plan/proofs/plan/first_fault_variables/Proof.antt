@@ -15,12 +15,12 @@ breakers-all-requires c κs = search needs
 duration-ms-requires : tie.Need-duration-ms-requires
 duration-ms-requires c κs = search needs
 
-duration-ms-requires-2 : tie.Need-duration-ms-requires-2
-duration-ms-requires-2 c κs = search needs
+fresh-variables-requires : tie.Need-fresh-variables-requires
+fresh-variables-requires c κs = search needs
 
 returns : tie.Need-returns
 unfolding beforeLoop ratedOf blank
-returns c = rw (c .duration-ms2 .ensures, c .before .duration-ms .ensures, c .before .before .breakers-all .ensures, c .before .before .before .rated-voltages .ensures)
+returns c = rw (c .fresh-variables .ensures, c .before .duration-ms .ensures, c .before .before .breakers-all .ensures, c .before .before .before .rated-voltages .ensures)
 
 pub first-fault-variables-spec : {M : Type 1} → statement M
 first-fault-variables-spec =
@@ -29,5 +29,5 @@ first-fault-variables-spec =
     rated-voltages-requires
     breakers-all-requires
     duration-ms-requires
-    duration-ms-requires-2
+    fresh-variables-requires
     returns)

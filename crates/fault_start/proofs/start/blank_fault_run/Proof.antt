@@ -10,9 +10,12 @@ blank-grid-requires c κs = search needs
 blank-state-requires : tie.Need-blank-state-requires
 blank-state-requires c κs = search needs
 
+fresh-variables-requires : tie.Need-fresh-variables-requires
+fresh-variables-requires c κs = search needs
+
 returns : tie.Need-returns
 unfolding blankFaultRun
-returns c = rw (c .blank-state .ensures, c .before .blank-grid .ensures)
+returns c = rw (c .fresh-variables .ensures, c .before .blank-state .ensures, c .before .before .blank-grid .ensures)
 
 pub blank-fault-run-spec : {M : Type 1} → statement M
-blank-fault-run-spec = tie.close (tie.spec blank-grid-requires blank-state-requires returns)
+blank-fault-run-spec = tie.close (tie.spec blank-grid-requires blank-state-requires fresh-variables-requires returns)

@@ -32,7 +32,14 @@ in-range-requires-4 c κs = search needs
 
 returns : tie.Need-returns
 unfolding cableOk realIn ofBits ofInt round
-returns c = rw (c .before .before .before .before .before .before .whole-in-range .ensures ∙ whole-is range.cableId refl _, c .before .before .before .before .before .whole-in-range2 .ensures ∙ whole-is range.fromStation refl _, c .before .before .before .before .whole-in-range3 .ensures ∙ whole-is range.toStation refl _, c .before .before .before .in-range .ensures, c .before .before .in-range2 .ensures, c .before .in-range3 .ensures, c .in-range4 .ensures)
+returns c =
+    let cap = c .before in
+    let l = cap .before in
+    let r = l .before in
+    let to = r .before in
+    let from = to .before in
+    let id = from .before in
+    rw (id .whole-in-range .ensures ∙ whole-is range.cableId refl _, from .whole-in-range2 .ensures ∙ whole-is range.fromStation refl _, to .whole-in-range3 .ensures ∙ whole-is range.toStation refl _, r .in-range .ensures, l .in-range2 .ensures, cap .in-range3 .ensures, c .in-range4 .ensures)
 
 pub check-cable-spec : {M : Type 1} → statement M
 check-cable-spec =

@@ -41,7 +41,17 @@ in-range-requires-8 c κs = search needs
 
 returns : tie.Need-returns
 unfolding stationOk realIn ofBits ofInt round
-returns c = rw (c .before .before .before .before .before .before .before .before .before .check-topology .ensures, c .before .before .before .before .before .before .before .before .whole-in-range .ensures ∙ whole-is range.stationId refl _, c .before .before .before .before .before .before .before .in-range .ensures, c .before .before .before .before .before .before .in-range2 .ensures, c .before .before .before .before .before .in-range3 .ensures, c .before .before .before .before .in-range4 .ensures, c .before .before .before .in-range5 .ensures, c .before .before .in-range6 .ensures, c .before .in-range7 .ensures, c .in-range8 .ensures)
+returns c =
+    let arm = c .before in
+    let xc = arm .before in
+    let angle = xc .before in
+    let scr = angle .before in
+    let x = scr .before in
+    let mw = x .before in
+    let kv = mw .before in
+    let id = kv .before in
+    let t = id .before in
+    rw (t .check-topology .ensures, id .whole-in-range .ensures ∙ whole-is range.stationId refl _, kv .in-range .ensures, mw .in-range2 .ensures, x .in-range3 .ensures, scr .in-range4 .ensures, angle .in-range5 .ensures, xc .in-range6 .ensures, arm .in-range7 .ensures, c .in-range8 .ensures)
 
 pub check-station-spec : {M : Type 1} → statement M
 check-station-spec =

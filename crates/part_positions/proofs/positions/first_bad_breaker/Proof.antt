@@ -44,17 +44,20 @@ loop-less c = omega arith
 loop-again : tie.Need-loop-again Inv-loop μ-loop
 loop-again c =
     let a = c .before .before .before .before in
-    (omega arith, more breakerOk _ (a .before .before .before .args .g .breakers) (a .loop .i) (omega (arith, long (a .before .before .before))) (a .loop .inv .1) (sym (c .before .check-breaker .ensures) ∙ c .if1 .taken))
+    let s = a .before .before .before in
+    (omega arith, more breakerOk _ (s .args .g .breakers) (a .loop .i) (omega (arith, long s)) (a .loop .inv .1) (sym (c .before .check-breaker .ensures) ∙ c .if1 .taken))
 
 returns : tie.Need-returns Inv-loop μ-loop
 returns c =
     let a = c .before .before .before .before in
-    sym (passing-at breakerOk _ (a .before .before .before .args .g .breakers) (a .loop .i) (a .before .before .before .args .g .«n_breakers») (omega arith) (omega (arith, long (a .before .before .before))) (a .loop .inv .1) (sym (c .before .check-breaker .ensures) ∙ c .if1 .left))
+    let s = a .before .before .before in
+    sym (passing-at breakerOk _ (s .args .g .breakers) (a .loop .i) (s .args .g .«n_breakers») (omega arith) (omega (arith, long s)) (a .loop .inv .1) (sym (c .before .check-breaker .ensures) ∙ c .if1 .left))
 
 returns-2 : tie.Need-returns-2 Inv-loop μ-loop
 returns-2 c =
     let a = c .before in
-    passing-end breakerOk (a .before .before .before .args .g .breakers) (a .before .before .before .args .g .«n_breakers») 32 (a .loop .i) _ (long (a .before .before .before)) (a .before .before .present .ensures) (a .loop .inv .0) (omega arith) (a .loop .inv .1)
+    let s = a .before .before .before in
+    passing-end breakerOk (s .args .g .breakers) (s .args .g .«n_breakers») 32 (a .loop .i) _ (long s) (a .before .before .present .ensures) (a .loop .inv .0) (omega arith) (a .loop .inv .1)
 
 pub first-bad-breaker-spec : {M : Type 1} → statement M
 first-bad-breaker-spec =

@@ -44,17 +44,20 @@ loop-less c = omega arith
 loop-again : tie.Need-loop-again Inv-loop μ-loop
 loop-again c =
     let a = c .before .before .before .before in
-    (omega arith, more stationOk _ (a .before .before .before .args .g .stations) (a .loop .i) (omega (arith, long (a .before .before .before))) (a .loop .inv .1) (sym (c .before .check-station .ensures) ∙ c .if1 .taken))
+    let s = a .before .before .before in
+    (omega arith, more stationOk _ (s .args .g .stations) (a .loop .i) (omega (arith, long s)) (a .loop .inv .1) (sym (c .before .check-station .ensures) ∙ c .if1 .taken))
 
 returns : tie.Need-returns Inv-loop μ-loop
 returns c =
     let a = c .before .before .before .before in
-    sym (passing-at stationOk _ (a .before .before .before .args .g .stations) (a .loop .i) (a .before .before .before .args .g .«n_stations») (omega arith) (omega (arith, long (a .before .before .before))) (a .loop .inv .1) (sym (c .before .check-station .ensures) ∙ c .if1 .left))
+    let s = a .before .before .before in
+    sym (passing-at stationOk _ (s .args .g .stations) (a .loop .i) (s .args .g .«n_stations») (omega arith) (omega (arith, long s)) (a .loop .inv .1) (sym (c .before .check-station .ensures) ∙ c .if1 .left))
 
 returns-2 : tie.Need-returns-2 Inv-loop μ-loop
 returns-2 c =
     let a = c .before in
-    passing-end stationOk (a .before .before .before .args .g .stations) (a .before .before .before .args .g .«n_stations») 32 (a .loop .i) _ (long (a .before .before .before)) (a .before .before .present .ensures) (a .loop .inv .0) (omega arith) (a .loop .inv .1)
+    let s = a .before .before .before in
+    passing-end stationOk (s .args .g .stations) (s .args .g .«n_stations») 32 (a .loop .i) _ (long s) (a .before .before .present .ensures) (a .loop .inv .0) (omega arith) (a .loop .inv .1)
 
 pub first-bad-station-spec : {M : Type 1} → statement M
 first-bad-station-spec =

@@ -25,13 +25,24 @@ long-y s = search needs
 long-currents : (s : tie.Start) → length (s .args .state .«station_currents_ka») ≡ 32
 long-currents s = search needs
 
-after-1 : (c : tie.After-put-numbers) → length (c .put-numbers .last .0) ≡ length (c .before .before .before .before .before .before .before .args .records .now)
+-- the start of the function, from the place after each table is put
+abbrev start-1 : tie.After-put-numbers → tie.Start
+start-1 c = c .before .before .before .before .before .before .before
+
+abbrev start-2 : tie.After-put-numbers2 → tie.Start
+start-2 c = start-1 (c .before .before .before .before .before)
+
+abbrev start-3 : tie.After-put-numbers3 → tie.Start
+start-3 c = start-2 (c .before .before .before .before .before)
+
+-- no table changes the length of the memory
+after-1 : (c : tie.After-put-numbers) → length (c .put-numbers .last .0) ≡ length (start-1 c .args .records .now)
 after-1 c = ap length (c .put-numbers .ensures) ∙ simp (length-sets, length-set)
 
-after-2 : (c : tie.After-put-numbers2) → length (c .put-numbers2 .last .0) ≡ length (c .before .before .before .before .before .before .before .before .before .before .before .before .args .records .now)
+after-2 : (c : tie.After-put-numbers2) → length (c .put-numbers2 .last .0) ≡ length (start-2 c .args .records .now)
 after-2 c = ap length (c .put-numbers2 .ensures) ∙ simp length-sets (after-1 (c .before .before .before .before .before))
 
-after-3 : (c : tie.After-put-numbers3) → length (c .put-numbers3 .last .0) ≡ length (c .before .before .before .before .before .before .before .before .before .before .before .before .before .before .before .before .before .args .records .now)
+after-3 : (c : tie.After-put-numbers3) → length (c .put-numbers3 .last .0) ≡ length (start-3 c .args .records .now)
 after-3 c = ap length (c .put-numbers3 .ensures) ∙ simp length-sets (after-2 (c .before .before .before .before .before))
 
 add-voltages : tie.Need-add-voltages
@@ -68,19 +79,28 @@ slice-aggregate-put-numbers-2 : tie.Need-slice-aggregate-put-numbers-2
 slice-aggregate-put-numbers-2 c = search needs
 
 put-numbers-requires-2 : tie.Need-put-numbers-requires-2
-put-numbers-requires-2 c κs = let s = c .before .before .before .before .before .before .before .before .before .before .before in (omega (arith, after-1 (c .before .before .before .before), s .pre .1), omega (arith, long-currents s, s .pre .0 .stations))
+put-numbers-requires-2 c κs =
+    let p = c .before .before .before .before in
+    let s = start-1 p in
+    (omega (arith, after-1 p, s .pre .1), omega (arith, long-currents s, s .pre .0 .stations))
 
 slice-aggregate-put-numbers-3 : tie.Need-slice-aggregate-put-numbers-3
 slice-aggregate-put-numbers-3 c = search needs
 
 put-numbers-requires-3 : tie.Need-put-numbers-requires-3
-put-numbers-requires-3 c κs = let s = c .before .before .before .before .before .before .before .before .before .before .before .before .before .before .before .before in (omega (arith, after-2 (c .before .before .before .before), s .pre .1), omega (arith, long-y s, s .pre .0 .stations, s .pre .0 .cables))
+put-numbers-requires-3 c κs =
+    let p = c .before .before .before .before in
+    let s = start-2 p in
+    (omega (arith, after-2 p, s .pre .1), omega (arith, long-y s, s .pre .0 .stations, s .pre .0 .cables))
 
 add-put-breakers : tie.Need-add-put-breakers
 add-put-breakers c = search needs
 
 put-breakers-requires : tie.Need-put-breakers-requires
-put-breakers-requires c κs = let s = c .before .before .before .before .before .before .before .before .before .before .before .before .before .before .before .before .before .before .before .before .before in (omega (arith, after-3 (c .before .before .before .before), s .pre .1), omega (arith, s .pre .0 .breakers))
+put-breakers-requires c κs =
+    let p = c .before .before .before .before in
+    let s = start-3 p in
+    (omega (arith, after-3 p, s .pre .1), omega (arith, s .pre .0 .breakers))
 
 same-length : tie.Need-same-length
 same-length c = ap length (c .before .before .put-breakers .ensures) ∙ simp length-sets (after-3 (c .before .before .before .before .before .before .before))
@@ -91,7 +111,7 @@ returns c =
     let p3 = c .before .before .before .before .before .before .before in
     let p2 = p3 .before .before .before .before .before in
     let p1 = p2 .before .before .before .before .before in
-    let a = p1 .before .before .before .before .before .before .before .args in
+    let a = start-1 p1 .args in
     let n = a .counts .stations in
     let s = a .state in
     c .before .before .put-breakers .ensures
