@@ -7,8 +7,8 @@ use native.Mathlib.Nat.{mul-zero, le-of-eq}
 use lib.ListN.{length, set, getD, take, drop, replicate, length-append, length-take, length-drop}
 use native.Mathlib.Numerals.{add-one}
 use lib.Seq.{drop-drop, drop-cons, take-all}
-use Rattle.columns.specs.Printed.{rightJustified, withNumber}
-use Rattle.columns.proofs.Justified.{length-right-justified, put-next}
+use Rattle.printed_numbers.specs.Printed.{rightJustified, withNumber}
+use Rattle.printed_numbers.proofs.Justified.{length-right-justified, put-next}
 use Rattle.listing_text.specs.Lines.{columnsOf, rowText, endText, refusalText}
 use Rattle.listing_text.specs.Puts.{putAll}
 

@@ -4,7 +4,7 @@ ghost use Prim.Native.Nat.{_≤_};
 ghost use lib.ListN.{length};
 ghost use Rattle.listing_text.specs.Lines.{rowText, endText, refusalText};
 ghost use Rattle.listing_text.specs.Puts.{putAll};
-use columns::put_number;
+use printed_numbers::put_number;
 
 // A row: R, its first four numbers in columns of 4, and the four bit patterns in columns of 21.
 pub fn row_text(row: [u64; 8]) -> [u8; 102]

@@ -3,8 +3,8 @@ ghost use Prim.Native.Nat.{_+_, _*_, _≤_};
 ghost use mathlib.Core.Path.{_≡_};
 ghost use Rattle.lists.specs.Scans.{each};
 ghost use Rattle.sheet_lines.specs.Fields.{whole, real, isWhole, isReal, formed};
-use columns::RealField;
-use columns::WholeField;
+use field_columns::RealField;
+use field_columns::WholeField;
 
 // A letter stands before the fields.
 const LETTER_COLUMNS: usize = 1;
@@ -27,7 +27,7 @@ pub fn whole(line: &[u8], field: usize) -> u64
     ensures { λ r. ⌜ r ≡ whole (now (line .entry)) field ⌝ }
 {
     let at = LETTER_COLUMNS + FIELD_COLUMNS * field;
-    let WholeField::Whole(n) = columns::whole_at(line, at) else {
+    let WholeField::Whole(n) = field_values::whole_at(line, at) else {
         return 0;
     };
     n
@@ -39,7 +39,7 @@ pub fn real(line: &[u8], field: usize) -> f64
     ensures { λ r. ⌜ r ≡ real (now (line .entry)) field ⌝ }
 {
     let at = LETTER_COLUMNS + FIELD_COLUMNS * field;
-    let RealField::Real(x) = columns::real_at(line, at) else {
+    let RealField::Real(x) = field_values::real_at(line, at) else {
         return 0.0;
     };
     x
@@ -50,7 +50,7 @@ fn is_whole(line: &[u8], field: usize) -> bool
     ensures { λ r. ⌜ r ≡ isWhole (now (line .entry)) field ⌝ }
 {
     let at = LETTER_COLUMNS + FIELD_COLUMNS * field;
-    let WholeField::Whole(_) = columns::whole_at(line, at) else {
+    let WholeField::Whole(_) = field_values::whole_at(line, at) else {
         return false;
     };
     true
@@ -61,7 +61,7 @@ fn is_real(line: &[u8], field: usize) -> bool
     ensures { λ r. ⌜ r ≡ isReal (now (line .entry)) field ⌝ }
 {
     let at = LETTER_COLUMNS + FIELD_COLUMNS * field;
-    let RealField::Real(_) = columns::real_at(line, at) else {
+    let RealField::Real(_) = field_values::real_at(line, at) else {
         return false;
     };
     true
