@@ -3,7 +3,10 @@ ghost use mathlib.Core.Path.{_≡_};
 ghost use Rattle.line_order.specs.Ordered.{placeOf, lineRefusal};
 use sheet_lines::SheetLine;
 
-// Its place in the order T, O, S, C, B. A line of wrong form has none, and 5 stands for that.
+// The place of a line of wrong form, which has none among the five.
+const NO_PLACE: usize = 5;
+
+// The place of a line in the order T, O, S, C, B.
 pub fn place_of(line: SheetLine) -> usize
     ensures { λ r. ⌜ r ≡ placeOf line ⌝ }
 {
@@ -22,7 +25,7 @@ pub fn place_of(line: SheetLine) -> usize
             breaker: _,
             known: _,
         } => 4,
-        SheetLine::Wrong => 5,
+        SheetLine::Wrong => NO_PLACE,
     }
 }
 
@@ -30,7 +33,7 @@ pub fn place_of(line: SheetLine) -> usize
 pub fn line_refusal(lines: usize, before: usize, place: usize) -> u64
     ensures { λ r. ⌜ r ≡ lineRefusal lines before place ⌝ }
 {
-    if place == 5 {
+    if place == NO_PLACE {
         return 12;
     }
     if lines < 2 {

@@ -27,7 +27,7 @@ pub fn start() -> Reading
 {
     Reading {
         sheet: empty_sheet(),
-        line: [0u8; 134],
+        line: [0u8; LINE_LENGTH],
         length: 0,
     }
 }

@@ -9,6 +9,13 @@ use grid::DcSwitchingSimulator;
 // The widest line number that a refusal can print. Reading stops there.
 pub const MOST_LINES: usize = 999_999_999_999;
 
+// The length of a grid's arrays.
+const MOST_STATIONS: usize = 32;
+
+const MOST_CABLES: usize = 64;
+
+const MOST_BREAKERS: usize = 32;
+
 // One more. A sheet has at most MOST_LINES lines, so that no count of them goes beyond.
 pub fn counted_on(count: usize) -> usize
     ensures { λ r. ⌜ r ≡ countedOn count ⌝ }
@@ -22,7 +29,7 @@ pub fn with_station(g: DcSwitchingSimulator, station: ConverterStation) -> DcSwi
     let mut grid = g;
     let n = grid.n_stations;
     grid.n_stations = counted_on(n);
-    if n < 32 {
+    if n < MOST_STATIONS {
         grid.stations[n] = station;
         return grid;
     }
@@ -35,7 +42,7 @@ pub fn with_cable(g: DcSwitchingSimulator, cable: DcCable) -> DcSwitchingSimulat
     let mut grid = g;
     let n = grid.n_cables;
     grid.n_cables = counted_on(n);
-    if n < 64 {
+    if n < MOST_CABLES {
         grid.cables[n] = cable;
         return grid;
     }
@@ -48,7 +55,7 @@ pub fn with_breaker(g: DcSwitchingSimulator, breaker: DcBreaker) -> DcSwitchingS
     let mut grid = g;
     let n = grid.n_breakers;
     grid.n_breakers = counted_on(n);
-    if n < 32 {
+    if n < MOST_BREAKERS {
         grid.breakers[n] = breaker;
         return grid;
     }
