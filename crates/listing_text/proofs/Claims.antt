@@ -5,10 +5,10 @@ use mathlib.Core.List.{List, [], _∷_, _++_, append-assoc, append-nil}
 use native.Mathlib.Omega.{arith}
 use lib.ListN.{length, take, drop, replicate, length-append, length-take, length-drop, take-append-drop}
 use lib.Seq.{take-at, drop-at}
-use Rattle.columns.specs.Fields.{number, afterSpaces}
-use Rattle.columns.specs.Printed.{rightJustified}
-use Rattle.columns.proofs.Justified.{length-right-justified}
-use Rattle.columns.proofs.RoundTrip.{column-back}
+use Rattle.field_columns.specs.Fields.{number, afterSpaces}
+use Rattle.printed_numbers.specs.Printed.{rightJustified}
+use Rattle.printed_numbers.proofs.Justified.{length-right-justified}
+use Rattle.column_claims.proofs.RoundTrip.{column-back}
 use Rattle.listing_text.specs.Lines.{columnsOf, rowText, endText, refusalText}
 use Rattle.listing_text.specs.Claims.{readBack, Fit, rowWidths, LineClaims}
 use Rattle.listing_text.proofs.Written.{length-columns}

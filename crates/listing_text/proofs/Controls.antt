@@ -2,7 +2,7 @@
 -- hand.
 use mathlib.Core.Path.{_≡_, refl}
 use mathlib.Core.List.{[], _∷_}
-use Rattle.columns.specs.Printed.{rightJustified, digitsOf}
+use Rattle.printed_numbers.specs.Printed.{rightJustified, digitsOf}
 use Rattle.listing_text.specs.Lines.{rowText, endText, refusalText}
 
 -- the rows of types 0, 1 and 2, and E with 3 cases and 3 steps

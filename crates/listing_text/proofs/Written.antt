@@ -7,10 +7,10 @@ use native.Mathlib.Nat.{mul-zero, le-of-eq}
 use lib.ListN.{length, set, getD, take, drop, replicate, length-append, length-take, length-drop}
 use native.Mathlib.Numerals.{add-one}
 use lib.Seq.{drop-drop, drop-cons, take-all}
-use Rattle.columns.specs.Printed.{rightJustified, withNumber}
-use Rattle.columns.proofs.Justified.{length-right-justified, put-next}
+use Rattle.printed_numbers.specs.Printed.{rightJustified, withNumber}
+use Rattle.printed_numbers.proofs.Justified.{length-right-justified, put-next}
 use Rattle.listing_text.specs.Lines.{columnsOf, rowText, endText, refusalText}
-use Rattle.listing_text.specs.Puts.{putAll}
+use Rattle.listing_text.specs.Puts.{twoPut, putAll}
 
 pub length-columns : (width : ℕ) (ns : List ℕ) → length (columnsOf width ns) ≡ width * length ns
 length-columns width [] = sym (mul-zero width)
@@ -51,16 +51,16 @@ row-written row t u l p q =
     ∙ ap (λ k. (82 ∷ []) ++ columnsOf 4 (take 4 row) ++ columnsOf 21 (drop 4 row) ++ drop (21 * k) (replicate 85 10)) g
 
 -- two numbers behind a letter: r is what lies behind the letter before, and s behind the first number
-two-written : (b v w m n : ℕ) (r s t u : List ℕ) → drop v r ≡ s → v ≤ length r → w ≤ length s → t ≡ withNumber (b ∷ r) 1 v m → u ≡ withNumber t (1 + v) w n
-    → u ≡ (b ∷ []) ++ rightJustified v m ++ rightJustified w n ++ drop w s
-two-written b v w m n r s t u e k l p q =
-    let first : t ≡ (b ∷ []) ++ rightJustified v m ++ s = put-next (b ∷ []) r (b ∷ r) t 1 v m refl refl k p ∙ ap (λ z. (b ∷ []) ++ rightJustified v m ++ z) e in
-    put-next ((b ∷ []) ++ rightJustified v m) s t u (1 + v) w n first (ap suc (length-right-justified v m) ∙ omega arith) l q
+two-written : (b v m n : ℕ) (r s : List ℕ) → drop v r ≡ s → v ≤ length r → 12 ≤ length s → twoPut (10 ∷ r) b v m n ≡ (b ∷ []) ++ rightJustified v m ++ rightJustified 12 n ++ drop 12 s
+two-written b v m n r s e k l =
+    let t = withNumber (b ∷ r) 1 v m in
+    let first : t ≡ (b ∷ []) ++ rightJustified v m ++ s = put-next (b ∷ []) r (b ∷ r) t 1 v m refl refl k refl ∙ ap (λ z. (b ∷ []) ++ rightJustified v m ++ z) e in
+    put-next ((b ∷ []) ++ rightJustified v m) s t (withNumber t (1 + v) 12 n) (1 + v) 12 n first (ap suc (length-right-justified v m) ∙ omega arith) l refl
 
-pub end-written : (cases steps : ℕ) (t u : List ℕ) → t ≡ withNumber (set (replicate 26 10) 0 69) 1 12 cases → u ≡ withNumber t 13 12 steps → u ≡ endText cases steps
+pub end-written : (cases steps : ℕ) → twoPut (replicate 26 10) 69 12 cases steps ≡ endText cases steps
 unfolding endText
-end-written cases steps t u p q = two-written 69 12 12 cases steps (replicate 25 10) (replicate 13 10) t u refl (omega arith) (omega arith) p q
+end-written cases steps = two-written 69 12 cases steps (replicate 25 10) (replicate 13 10) refl (omega arith) (omega arith)
 
-pub refusal-written : (number at : ℕ) (t u : List ℕ) → t ≡ withNumber (set (replicate 18 10) 0 88) 1 4 number → u ≡ withNumber t 5 12 at → u ≡ refusalText number at
+pub refusal-written : (number at : ℕ) → twoPut (replicate 18 10) 88 4 number at ≡ refusalText number at
 unfolding refusalText
-refusal-written number at t u p q = two-written 88 4 12 number at (replicate 17 10) (replicate 13 10) t u refl (omega arith) (omega arith) p q
+refusal-written number at = two-written 88 4 number at (replicate 17 10) (replicate 13 10) refl (omega arith) (omega arith)

@@ -3,7 +3,7 @@ use Prim.Native.Nat.{ℕ, _^_, _<_}
 use mathlib.Core.Path.{_≡_}
 use mathlib.Core.List.{List, [], _∷_, _++_}
 use lib.ListN.{length, take, drop, replicate}
-use Rattle.columns.specs.Fields.{number, afterSpaces}
+use Rattle.field_columns.specs.Fields.{number, afterSpaces}
 use Rattle.listing_text.specs.Lines.{rowText, endText, refusalText}
 
 -- the numbers in columns of these widths, one beside the other

@@ -3,7 +3,7 @@
 use Prim.Native.Nat.{ℕ}
 use mathlib.Core.List.{List, [], _∷_, _++_}
 use lib.ListN.{take, drop}
-use Rattle.columns.specs.Printed.{rightJustified}
+use Rattle.printed_numbers.specs.Printed.{rightJustified}
 
 abbrev pub line : ℕ → List ℕ → List ℕ
 line letter columns = (letter ∷ []) ++ columns ++ (10 ∷ [])

@@ -1,10 +1,20 @@
 // The text of a line: a letter, numbers in columns, and a line feed.
 ghost use mathlib.Core.Path.{_≡_};
-ghost use Prim.Native.Nat.{_≤_};
+ghost use Prim.Native.Nat.{_<_, _≤_};
 ghost use lib.ListN.{length};
 ghost use Rattle.listing_text.specs.Lines.{rowText, endText, refusalText};
-ghost use Rattle.listing_text.specs.Puts.{putAll};
-use columns::put_number;
+ghost use Rattle.listing_text.specs.Puts.{twoPut, putAll};
+use printed_numbers::put_number;
+
+// The columns of a number of a case or a rule, of a count or a line number, and of the bits of a double.
+const NUMBER_WIDTH: usize = 4;
+
+const COUNT_WIDTH: usize = 12;
+
+const BITS_WIDTH: usize = 21;
+
+// Where the bits of a row begin: behind the letter and four numbers.
+const BITS_AT: usize = 17;
 
 // A row: R, its first four numbers in columns of 4, and the four bit patterns in columns of 21.
 pub fn row_text(row: [u64; 8]) -> [u8; 102]
@@ -12,8 +22,8 @@ pub fn row_text(row: [u64; 8]) -> [u8; 102]
 {
     let mut text = [b'\n'; 102];
     text[0] = b'R';
-    put_columns(&mut text, 1, 4, &row[..4]);
-    put_columns(&mut text, 17, 21, &row[4..]);
+    put_columns(&mut text, 1, NUMBER_WIDTH, &row[..4]);
+    put_columns(&mut text, BITS_AT, BITS_WIDTH, &row[4..]);
     text
 }
 
@@ -22,9 +32,7 @@ pub fn end_text(cases: u64, steps: u64) -> [u8; 26]
     ensures { λ r. ⌜ r ≡ endText cases steps ⌝ }
 {
     let mut text = [b'\n'; 26];
-    text[0] = b'E';
-    put_number(&mut text, 1, 12, cases);
-    put_number(&mut text, 13, 12, steps);
+    put_two(&mut text, b'E', COUNT_WIDTH, cases, steps);
     text
 }
 
@@ -33,10 +41,19 @@ pub fn refusal_text(number: u64, line: u64) -> [u8; 18]
     ensures { λ r. ⌜ r ≡ refusalText number line ⌝ }
 {
     let mut text = [b'\n'; 18];
-    text[0] = b'X';
-    put_number(&mut text, 1, 4, number);
-    put_number(&mut text, 5, 12, line);
+    put_two(&mut text, b'X', NUMBER_WIDTH, number, line);
     text
+}
+
+// Writes a letter, a number in `width` columns behind it, and another in 12 columns behind that.
+fn put_two(out: &mut [u8], letter: u8, width: usize, first: u64, second: u64)
+    requires { ⌜ 0 < length (now out) ⌝ }
+    requires { ⌜ width ≤ 12 ⌝ }
+    ensures { λ _. ⌜ now (out .exit) ≡ twoPut (now (out .entry)) letter width first second ⌝ }
+{
+    out[0] = letter;
+    put_number(out, 1, width, first);
+    put_number(out, 1 + width, COUNT_WIDTH, second);
 }
 
 // Writes numbers side by side, from a position on.

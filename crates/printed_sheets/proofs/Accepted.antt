@@ -27,7 +27,7 @@ use Rattle.rule_claims.proofs.Claims.{refusal-claims}
 use Rattle.rule_claims.proofs.Deciding.{decides}
 use Rattle.sheet_lines.specs.declared.line.SheetLine.{SheetLine}
 use Rattle.sheet_lines.specs.declared.line.SheetLine.the-variants.{Times, Order, Cable}
-use Rattle.sheet.specs.Sheets.{none, formRefusal, orderIn, gridIn, badStation, badCable, badBreaker, firstBad, sheetBroken, shownAt, refusalOf, answered}
+use Rattle.whole_sheets.specs.Sheets.{none, formRefusal, orderIn, gridIn, badStation, badCable, badBreaker, firstBad, sheetBroken, shownAt, refusalOf, answered}
 use Rattle.printed_sheets.specs.Claims.{SameGrid}
 use Rattle.printed_sheets.proofs.Read.{stationSaid, breakerSaid, partLines, sheetLines}
 

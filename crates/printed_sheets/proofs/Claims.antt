@@ -11,9 +11,9 @@ use Rattle.grid.specs.declared.simulator.DcSwitchingSimulator.{DcSwitchingSimul
 use Rattle.rules.specs.Studies.{sweepRefusal}
 use Rattle.rule_claims.specs.Claims.{Sizes}
 use Rattle.rule_claims.proofs.Sizes.{size-claims}
-use Rattle.columns.specs.declared.fields.Decimal.{Decimal}
-use Rattle.sheet.specs.Sheets.{none, orderIn, gridIn, refusalOf, answered, sheetAnswer}
-use Rattle.sheet.specs.declared.answers.SheetAnswer.{SheetAnswer}
+use Rattle.field_columns.specs.declared.fields.Decimal.{Decimal}
+use Rattle.whole_sheets.specs.Sheets.{none, orderIn, gridIn, refusalOf, answered, sheetAnswer}
+use Rattle.whole_sheets.specs.declared.answers.SheetAnswer.{SheetAnswer}
 use Rattle.printed_sheets.specs.Printing.{printedSheet}
 use Rattle.printed_sheets.specs.Claims.{SixPlaces, Made, SameGrid, ReadsBack, RoundTripClaims}
 use Rattle.printed_sheets.proofs.Read.{sheetLines, read-as, lines-few}

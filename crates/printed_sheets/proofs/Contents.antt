@@ -17,8 +17,8 @@ use Rattle.grid.specs.declared.simulator.DcSwitchingSimulator.{DcSwitchingSimul
 use Rattle.float64.specs.Constants.{nought}
 use Rattle.sheet_lines.specs.declared.line.SheetLine.{SheetLine}
 use Rattle.sheet_lines.specs.declared.line.SheetLine.the-variants.{Cable}
-use Rattle.sheet.specs.Ordered.{placeOf, inOrder, lineRefusal}
-use Rattle.sheet.specs.Sheets.{none, refused, formRefusal, stationsIn, cablesIn, breakersIn, newFrom, orderFrom, orderIn, laid, gridIn}
+use Rattle.line_order.specs.Ordered.{placeOf, inOrder, lineRefusal}
+use Rattle.whole_sheets.specs.Sheets.{none, refused, formRefusal, stationsIn, cablesIn, breakersIn, newFrom, orderFrom, orderIn, laid, gridIn}
 use Rattle.printed_sheets.specs.Claims.{Made, SameGrid, BlankPast}
 use Rattle.printed_sheets.proofs.Read.{stationSaid, breakerSaid, partLines, sheetLines}
 

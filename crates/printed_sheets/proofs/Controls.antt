@@ -21,10 +21,10 @@ use Rattle.part_checks.specs.PartChecks.{topologyOk, stationOk, cableOk, breake
 use Rattle.timing.specs.Steps.{roundedUp, stepsOf}
 use Rattle.rules.specs.Studies.{broken, first, sweepRefusal}
 use Rattle.rule_tests.specs.Rules.{tooManyParts, timeOutside, tooManySteps, stationOutside, cableOutside, breakerOutside}
-use Rattle.columns.specs.Fields.{valueOf}
-use Rattle.columns.specs.Printed.{digitsOf, printedDecimal}
-use Rattle.columns.specs.declared.fields.Decimal.{Decimal}
-use Rattle.sheet.specs.Sheets.{sheetAnswer}
+use Rattle.field_columns.specs.Fields.{valueOf}
+use Rattle.printed_numbers.specs.Printed.{digitsOf, printedDecimal}
+use Rattle.field_columns.specs.declared.fields.Decimal.{Decimal}
+use Rattle.whole_sheets.specs.Sheets.{sheetAnswer}
 use Rattle.printed_sheets.specs.Printing.{whole, printedLine, stationText, breakerText, printedSheet}
 use Rattle.printed_sheets.specs.Claims.{Fits, Spelled, SpelledStation, SpelledCable, SpelledBreaker, SixPlaces, Made, BlankPast, ReadsBack}
 use Rattle.printed_sheets.proofs.Whole.{whole-fits}

@@ -11,19 +11,19 @@ use lib.Seq.{take-at, drop-append-add, getD-append-seam}
 use borrow.Author.Tests.{eq-eqb, ne-eqb, eqb-true, ltb-true, not-true, not-false}
 use Rattle.lists.specs.Scans.{every, some, each}
 use Rattle.lists.proofs.Scanning.{left, right, both, every-of}
-use Rattle.columns.specs.Fields.{isDigit, someDigits, wholeOf, realOf, asWhole, valueOf}
-use Rattle.columns.specs.Printed.{printedDecimal}
-use Rattle.columns.specs.Claims.{Plain, Pointed}
-use Rattle.columns.specs.declared.fields.Decimal.{Decimal}
-use Rattle.columns.specs.declared.fields.WholeField.the-variants.{Whole, Wrong}
-use Rattle.columns.specs.declared.fields.RealField.the-variants.{Real}
-use Rattle.columns.proofs.Digit.{digit-at-least}
-use Rattle.columns.proofs.RoundTrip.{form, decimal-back, real-back, length-printed}
+use Rattle.field_columns.specs.Fields.{isDigit, someDigits, wholeOf, realOf, asWhole, valueOf}
+use Rattle.printed_numbers.specs.Printed.{printedDecimal}
+use Rattle.column_claims.specs.Claims.{Plain, Pointed}
+use Rattle.field_columns.specs.declared.fields.Decimal.{Decimal}
+use Rattle.field_columns.specs.declared.fields.WholeField.the-variants.{Whole, Wrong}
+use Rattle.field_columns.specs.declared.fields.RealField.the-variants.{Real}
+use Rattle.field_columns.proofs.Digit.{digit-at-least}
+use Rattle.column_claims.proofs.RoundTrip.{form, decimal-back, real-back, length-printed}
 use Rattle.sheet_lines.specs.Fields as read
 use Rattle.sheet_lines.specs.Fields.{columnsOf, isWhole, isReal, found, lengthOf, formed, wholeIn, realIn}
 use Rattle.sheet_lines.specs.declared.fields.Form.{Form}
 use Rattle.sheet_lines.proofs.WrongLines.{feedless}
-use Rattle.sheet.specs.Sheets.{linesOf, before}
+use Rattle.whole_sheets.specs.Sheets.{linesOf, before}
 use Rattle.printed_sheets.specs.Printing.{fields, printedLine, whole}
 use Rattle.printed_sheets.specs.Claims.{Fits, All}
 

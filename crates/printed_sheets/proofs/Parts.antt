@@ -18,13 +18,13 @@ use Rattle.grid.specs.declared.parts.DcCable.{DcCable}
 use Rattle.grid.specs.declared.parts.DcBreaker.{DcBreaker}
 use Rattle.grid.specs.declared.parts.SweepOrder.{SweepOrder}
 use Rattle.part_checks.specs.PartChecks.{stationOk, cableOk, breakerOk, orderOk}
-use Rattle.columns.specs.Fields.{valueOf}
-use Rattle.columns.specs.declared.fields.Decimal.{Decimal}
+use Rattle.field_columns.specs.Fields.{valueOf}
+use Rattle.field_columns.specs.declared.fields.Decimal.{Decimal}
 use Rattle.sheet_lines.specs.Fields as read
 use Rattle.sheet_lines.specs.Lines.{letterT, letterO, letterS, letterC, letterB, timesForm, orderForm, stationForm, cableForm, breakerForm, timesLine, orderLine, stationLine, cableLine, breakerLine, orderIn, topologyOf, stationIn, stationKnown, cableIn, breakerTypeOf, breakerIn, breakerKnown, lineOf}
 use Rattle.sheet_lines.specs.declared.line.SheetLine.{SheetLine}
 use Rattle.sheet_lines.specs.declared.line.SheetLine.the-variants.{Times, Order, Station, Cable, Breaker, Wrong}
-use Rattle.sheet.specs.Sheets.{linesOf}
+use Rattle.whole_sheets.specs.Sheets.{linesOf}
 use Rattle.printed_sheets.specs.Printing.{whole, printedLine, topologyNumber, submodulesIn, kindNumber, breakerTime, secondNumber, timesFields, orderFields, stationFields, cableFields, breakerFields, stationText, cableText, breakerText}
 use Rattle.printed_sheets.specs.Claims.{Fits, All, Spelled, SpelledStation, SpelledCable, SpelledType, SpelledBreaker}
 use Rattle.printed_sheets.proofs.Lines.{line-ends, real-read, whole-read, line-formed, letter-is}

@@ -16,11 +16,11 @@ use Rattle.grid.specs.declared.parts.DcBreaker.{DcBreaker}
 use Rattle.grid.specs.declared.parts.SweepOrder.{SweepOrder}
 use Rattle.grid.specs.declared.simulator.DcSwitchingSimulator.{DcSwitchingSimulator}
 use Rattle.part_checks.specs.PartChecks.{stationOk, cableOk, breakerOk, orderOk}
-use Rattle.columns.specs.declared.fields.Decimal.{Decimal}
+use Rattle.field_columns.specs.declared.fields.Decimal.{Decimal}
 use Rattle.sheet_lines.specs.Lines.{letterT, letterO, lineOf}
 use Rattle.sheet_lines.specs.declared.line.SheetLine.{SheetLine}
 use Rattle.sheet_lines.specs.declared.line.SheetLine.the-variants.{Times, Order, Station, Cable, Breaker}
-use Rattle.sheet.specs.Sheets.{linesOf, mostLines, said}
+use Rattle.whole_sheets.specs.Sheets.{linesOf, mostLines, said}
 use Rattle.printed_sheets.specs.Printing.{printedLine, timesFields, orderFields, stationText, cableText, breakerText, joined, printedSheet}
 use Rattle.printed_sheets.specs.Claims.{All, SpelledStation, SpelledCable, SpelledBreaker, SixPlaces}
 use Rattle.printed_sheets.proofs.Parts.{Says, times-said, order-said, station-said, cable-said, breaker-said}

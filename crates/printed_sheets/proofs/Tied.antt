@@ -9,9 +9,9 @@ use denote.Ref.{now}
 use Rattle.grid.specs.declared.parts.SweepOrder.{SweepOrder}
 use Rattle.grid.specs.declared.simulator.DcSwitchingSimulator.{DcSwitchingSimulator}
 use Rattle.rules.specs.Studies.{sweepRefusal}
-use Rattle.columns.specs.declared.fields.Decimal.{Decimal}
-use Rattle.sheet.specs.Sheets.{none, sheetAnswer}
-use Rattle.sheet.specs.declared.answers.SheetAnswer.{SheetAnswer}
+use Rattle.field_columns.specs.declared.fields.Decimal.{Decimal}
+use Rattle.whole_sheets.specs.Sheets.{none, sheetAnswer}
+use Rattle.whole_sheets.specs.declared.answers.SheetAnswer.{SheetAnswer}
 use Rattle.sheet.proofs.read_sheet as read-contract
 use Rattle.sheet.proofs.read_sheet.Kinds as read-kinds
 use Rattle.sheet.proofs.read_sheet.Reads as read-reads

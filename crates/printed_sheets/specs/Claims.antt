@@ -13,10 +13,10 @@ use Rattle.grid.specs.declared.parts.DcBreaker.{DcBreaker}
 use Rattle.grid.specs.declared.parts.SweepOrder.{SweepOrder}
 use Rattle.grid.specs.declared.simulator.DcSwitchingSimulator.{DcSwitchingSimulator}
 use Rattle.rules.specs.Studies.{sweepRefusal}
-use Rattle.columns.specs.Fields.{valueOf}
-use Rattle.columns.specs.Claims.{Holds12}
-use Rattle.columns.specs.declared.fields.Decimal.{Decimal}
-use Rattle.sheet.specs.Sheets.{none, sheetAnswer}
+use Rattle.field_columns.specs.Fields.{valueOf}
+use Rattle.column_claims.specs.Claims.{Holds12}
+use Rattle.field_columns.specs.declared.fields.Decimal.{Decimal}
+use Rattle.whole_sheets.specs.Sheets.{none, sheetAnswer}
 use Rattle.printed_sheets.specs.Printing.{printedSheet}
 
 -- ---- what has at most six places

@@ -12,8 +12,8 @@ use Rattle.grid.specs.declared.parts.DcCable.{DcCable}
 use Rattle.grid.specs.declared.parts.DcBreaker.{DcBreaker}
 use Rattle.grid.specs.declared.parts.SweepOrder.{SweepOrder}
 use Rattle.grid.specs.declared.simulator.DcSwitchingSimulator.{DcSwitchingSimulator}
-use Rattle.columns.specs.Printed.{printedDecimal}
-use Rattle.columns.specs.declared.fields.Decimal.{Decimal}
+use Rattle.printed_numbers.specs.Printed.{printedDecimal}
+use Rattle.field_columns.specs.declared.fields.Decimal.{Decimal}
 use Rattle.sheet_lines.specs.Lines.{letterT, letterO, letterS, letterC, letterB}
 
 -- ---- a line

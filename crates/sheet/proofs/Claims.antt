@@ -13,17 +13,17 @@ use Rattle.grid.specs.declared.simulator.DcSwitchingSimulator.{DcSwitchingSimul
 use Rattle.grid.specs.declared.parts.SweepOrder.{SweepOrder}
 use Rattle.rules.specs.Studies.{broken, first, faultOrder, sweepRefusal}
 use Rattle.sheet_lines.specs.declared.line.SheetLine.{SheetLine}
-use Rattle.sheet.specs.Sheets.{said, refused, noOrder, formRefusal, gridIn, orderIn, sheetBroken, shownAt, refusalOf, answered, sheetAnswer}
-use Rattle.sheet.specs.Bytes.{startOf, stoppedIn, byteTaken}
-use Rattle.sheet.specs.Answers.{ruleBroken, answerOf}
+use Rattle.whole_sheets.specs.Sheets.{said, refused, noOrder, formRefusal, gridIn, orderIn, sheetBroken, shownAt, refusalOf, answered, sheetAnswer}
+use Rattle.sheet_bytes.specs.Bytes.{startOf, stoppedIn, byteTaken}
+use Rattle.sheet_answers.specs.Answers.{ruleBroken, answerOf}
 use Rattle.sheet.specs.Claims.{joined, fedAll, SheetClaims}
-use Rattle.sheet.specs.declared.bytes.Reading.{Reading}
-use Rattle.sheet.specs.declared.answers.Refusal.{Refusal}
-use Rattle.sheet.specs.declared.answers.SheetAnswer.{SheetAnswer}
+use Rattle.sheet_bytes.specs.declared.bytes.Reading.{Reading}
+use Rattle.whole_sheets.specs.declared.answers.Refusal.{Refusal}
+use Rattle.whole_sheets.specs.declared.answers.SheetAnswer.{SheetAnswer}
 use Rattle.float64.specs.Constants.{nought}
 use Rattle.grid.specs.Simulator.{newSimulator}
 use Rattle.sheet.proofs.Contents.{contentsOf}
-use Rattle.sheet.proofs.Feeding.{fold-stopped}
+use Rattle.sheet_bytes.proofs.Feeding.{fold-stopped}
 use Rattle.sheet.proofs.Judged.{ruled}
 use Rattle.sheet.proofs.Whole.{whole}
 

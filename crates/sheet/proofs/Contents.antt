@@ -18,10 +18,11 @@ use Rattle.grid.specs.declared.parts.SweepOrder.{SweepOrder}
 use Rattle.grid.specs.declared.simulator.DcSwitchingSimulator.{DcSwitchingSimulator}
 use Rattle.sheet_lines.specs.declared.line.SheetLine.{SheetLine}
 use Rattle.sheet_lines.specs.declared.line.SheetLine.the-variants.{Times, Order, Station, Cable, Breaker, Wrong}
-use Rattle.sheet.specs.Ordered.{placeOf, inOrder, lineRefusal}
-use Rattle.sheet.specs.Sheets.{mostLines, stationsIn, cablesIn, breakersIn, newFrom, noOrder, orderFrom, orderIn, laid, gridIn, badStation, badCable, badBreaker, firstBad}
-use Rattle.sheet.specs.Taken.{countedOn, stationTaken, cableTaken, breakerTaken, emptySheet, firstOf, holding, contentsWith, movedOn}
-use Rattle.sheet.specs.declared.taken.Sheet.{Sheet}
+use Rattle.line_order.specs.Ordered.{placeOf, inOrder, lineRefusal}
+use Rattle.whole_sheets.specs.Sheets.{mostLines, stationsIn, cablesIn, breakersIn, newFrom, noOrder, orderFrom, orderIn, laid, gridIn, badStation, badCable, badBreaker, firstBad}
+use Rattle.sheet_parts.specs.Parts.{countedOn, stationTaken, cableTaken, breakerTaken}
+use Rattle.taken_lines.specs.Taken.{emptySheet, firstOf, holding, contentsWith, movedOn}
+use Rattle.taken_lines.specs.declared.taken.Sheet.{Sheet}
 use Rattle.sheet.proofs.Laid.{laid-more}
 
 -- the place of the last line

@@ -17,15 +17,16 @@ use Rattle.rules.specs.Studies.{broken, first, faultOrder}
 use Rattle.rule_tests.specs.Rules.{stationOutside, cableOutside, breakerOutside}
 use Rattle.sheet_lines.specs.declared.line.SheetLine.{SheetLine}
 use Rattle.sheet_lines.specs.declared.line.SheetLine.the-variants.{Times, Order, Station, Cable, Breaker, Wrong}
-use Rattle.sheet.specs.Ordered.{placeOf, lineRefusal}
-use Rattle.sheet.specs.Sheets.{mostLines, refused, none, formRefusal, stationsIn, cablesIn, breakersIn, orderIn, gridIn, badStation, badCable, badBreaker, firstBad, sheetBroken, shownAt, refusalOf, answered}
-use Rattle.sheet.specs.Taken.{countedOn, emptySheet, stoppedAt, contentsWith, refusedBy, withLine}
-use Rattle.sheet.specs.Answers.{ruleBroken, ruleRefusal, ruleLine, refusalIn}
-use Rattle.sheet.specs.declared.taken.Sheet.{Sheet}
-use Rattle.sheet.specs.declared.answers.Refusal.{Refusal}
-use Rattle.sheet.specs.declared.answers.SheetAnswer.{SheetAnswer}
+use Rattle.line_order.specs.Ordered.{placeOf, lineRefusal}
+use Rattle.whole_sheets.specs.Sheets.{mostLines, refused, none, formRefusal, stationsIn, cablesIn, breakersIn, orderIn, gridIn, badStation, badCable, badBreaker, firstBad, sheetBroken, shownAt, refusalOf, answered}
+use Rattle.sheet_parts.specs.Parts.{countedOn}
+use Rattle.taken_lines.specs.Taken.{emptySheet, stoppedAt, contentsWith, refusedBy, withLine}
+use Rattle.sheet_answers.specs.Answers.{ruleBroken, ruleRefusal, ruleLine, refusalIn}
+use Rattle.taken_lines.specs.declared.taken.Sheet.{Sheet}
+use Rattle.whole_sheets.specs.declared.answers.Refusal.{Refusal}
+use Rattle.whole_sheets.specs.declared.answers.SheetAnswer.{SheetAnswer}
 use Rattle.sheet.proofs.Laid.{every-laid}
-use Rattle.sheet.proofs.Ways.{stopped-way, taken-way, refused-way}
+use Rattle.taken_lines.proofs.Ways.{stopped-way, taken-way, refused-way}
 use Rattle.sheet.proofs.Contents.{lastPlace, last-is, contentsOf, counted, contents-none, contents-more}
 
 -- ---- where no line of a letter is bad, the grid has no bad part

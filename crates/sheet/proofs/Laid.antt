@@ -10,7 +10,7 @@ use lib.Seq.{take-append-le, take-take, take-all}
 use borrow.Author.Tests.{ltb-true, ltb-false}
 use Rattle.lists.specs.Scans.{every}
 use Rattle.lists.proofs.Scanning.{left, right, both}
-use Rattle.sheet.specs.Sheets.{laid}
+use Rattle.whole_sheets.specs.Sheets.{laid}
 
 module _ {A : Type 0} (z : A) where
   take-blank : (m k : ℕ) → m ≤ k → take m (replicate k z) ≡ replicate m z

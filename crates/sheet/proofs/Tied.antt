@@ -1,4 +1,4 @@
--- The claims speak of what the code returns: what a caller learns from the contracts in src/, as Rattle reads their clauses, gives the claim of the result. No function asks anything of its caller.
+-- The claims speak of what the code returns: what a caller learns from the contracts in src/, as Rattle reads their clauses, gives the claim of the result. `read_sheet` asks nothing of its caller.
 -- Assumes nothing.
 use Prim.Native.Nat.{ℕ}
 use mathlib.Core.Path.{_≡_, sym, _∙_, ap, subst}
@@ -8,34 +8,13 @@ use borrow.Fn.Kinds.{endedOf}
 use denote.Triple.Clauses.{AtExit}
 use denote.Ref.{now}
 use Rattle.rules.specs.Studies.{sweepRefusal}
-use Rattle.sheet.specs.Sheets.{sheetAnswer}
+use Rattle.whole_sheets.specs.Sheets.{sheetAnswer}
 use Rattle.sheet.proofs.Claims.{sheet-claims}
-use Rattle.sheet.proofs.bytes.start as start-contract
-use Rattle.sheet.proofs.bytes.start.Reads as start-reads
-use Rattle.sheet.proofs.bytes.stopped as stopped-contract
-use Rattle.sheet.proofs.bytes.stopped.Reads as stopped-reads
-use Rattle.sheet.proofs.bytes.feed as feed-contract
-use Rattle.sheet.proofs.bytes.feed.Reads as feed-reads
-use Rattle.sheet.proofs.answers.answer as answer-contract
-use Rattle.sheet.proofs.answers.answer.Reads as answer-reads
-use Rattle.sheet.proofs.answers.read_sheet as read-sheet-contract
-use Rattle.sheet.proofs.answers.read_sheet.Reads as read-sheet-reads
-use Rattle.sheet.proofs.answers.read_sheet.Kinds as read-sheet-kinds
-
-module _ (κs : Lfts 0) where
-  pub start-any : (a : ArgsD start-contract.signature κs) → start-reads.Asked κs a
-  start-any a = tt
-
-  pub stopped-any : (a : ArgsD stopped-contract.signature κs) → stopped-reads.Asked κs a
-  stopped-any a = tt
-
-  pub answer-any : (a : ArgsD answer-contract.signature κs) → answer-reads.Asked κs a
-  answer-any a = tt
+use Rattle.sheet.proofs.read.read_sheet as read-sheet-contract
+use Rattle.sheet.proofs.read.read_sheet.Reads as read-sheet-reads
+use Rattle.sheet.proofs.read.read_sheet.Kinds as read-sheet-kinds
 
 module _ (κs : Lfts 1) where
-  pub feed-any : (a : ArgsD feed-contract.signature κs) → feed-reads.Asked κs a
-  feed-any a = tt
-
   pub read-sheet-any : (a : ArgsD read-sheet-contract.signature κs) → read-sheet-reads.Asked κs a
   read-sheet-any a = tt
 

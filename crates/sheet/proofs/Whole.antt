@@ -15,14 +15,14 @@ use Rattle.sheet_lines.specs.Lines.{lineOf}
 use Rattle.sheet_lines.specs.declared.line.SheetLine.{SheetLine}
 use Rattle.sheet_lines.specs.declared.line.SheetLine.the-variants.{Wrong}
 use Rattle.sheet_lines.proofs.WrongLines.{feedless, too-long, unended}
-use Rattle.sheet.specs.Sheets.{before, linesOf, mostLines, said, gridIn, orderIn, refusalOf, answered, sheetAnswer}
-use Rattle.sheet.specs.Taken.{emptySheet, stoppedAt, withLine}
-use Rattle.sheet.specs.Bytes.{longest, startOf, stoppedIn, lineTaken, byteKept, tooLong, byteTaken, endedOf}
-use Rattle.sheet.specs.Answers.{refusalIn, answerOf}
-use Rattle.sheet.specs.declared.taken.Sheet.{Sheet}
-use Rattle.sheet.specs.declared.bytes.Reading.{Reading}
-use Rattle.sheet.proofs.Ways.{stopped-way}
-use Rattle.sheet.proofs.Feeding.{kept-way, line-way, long-way, wrong-stops, fold-stopped, ended-empty, ended-open}
+use Rattle.whole_sheets.specs.Sheets.{before, linesOf, mostLines, said, gridIn, orderIn, refusalOf, answered, sheetAnswer}
+use Rattle.taken_lines.specs.Taken.{emptySheet, stoppedAt, withLine}
+use Rattle.sheet_bytes.specs.Bytes.{longest, startOf, stoppedIn, lineTaken, byteKept, tooLong, byteTaken, endedOf}
+use Rattle.sheet_answers.specs.Answers.{refusalIn, answerOf}
+use Rattle.taken_lines.specs.declared.taken.Sheet.{Sheet}
+use Rattle.sheet_bytes.specs.declared.bytes.Reading.{Reading}
+use Rattle.taken_lines.proofs.Ways.{stopped-way}
+use Rattle.sheet_bytes.proofs.Feeding.{kept-way, line-way, long-way, wrong-stops, fold-stopped, ended-empty, ended-open}
 use Rattle.sheet.proofs.Judged.{lines-stopped, lines-judged}
 
 -- ---- the bytes of a line that has not ended, in front of the lines that come

@@ -4,10 +4,10 @@ use mathlib.Core.Path.{_≡_}
 use mathlib.Core.Bool.{true}
 use mathlib.Core.List.{List, [], _∷_, _++_, foldl}
 use Rattle.rules.specs.Studies.{sweepRefusal}
-use Rattle.sheet.specs.Sheets.{sheetAnswer}
-use Rattle.sheet.specs.Bytes.{startOf, stoppedIn, byteTaken}
-use Rattle.sheet.specs.Answers.{answerOf}
-use Rattle.sheet.specs.declared.bytes.Reading.{Reading}
+use Rattle.whole_sheets.specs.Sheets.{sheetAnswer}
+use Rattle.sheet_bytes.specs.Bytes.{startOf, stoppedIn, byteTaken}
+use Rattle.sheet_answers.specs.Answers.{answerOf}
+use Rattle.sheet_bytes.specs.declared.bytes.Reading.{Reading}
 
 -- the pieces of a text, joined
 abbrev pub joined : List (List ℕ) → List ℕ

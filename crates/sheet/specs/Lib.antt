@@ -1,6 +1,2 @@
-pub mod Ordered
-pub mod Sheets
-pub mod Taken
-pub mod Bytes
-pub mod Answers
+-- what is said of a sheet beside the definitions
 pub mod Claims

@@ -1,17 +1,11 @@
-// A sheet, in pieces as they arrive: its grid and its order, or the number and the line of what is wrong with it.
-mod answers;
-mod bytes;
-mod parts;
-mod taken;
+// A sheet, whole or in pieces as they arrive: its grid and its order, or the number and the line of what is wrong with it.
+mod read;
 
-pub use answers::Refusal;
-pub use answers::SheetAnswer;
-pub use answers::answer;
-pub use answers::read_sheet;
-pub use bytes::LINE_LENGTH;
-pub use bytes::Reading;
-pub use bytes::feed;
-pub use bytes::start;
-pub use bytes::stopped;
-pub use taken::MOST_LINES;
-pub use taken::Sheet;
+pub use read::read_sheet;
+pub use sheet_answers::answer;
+pub use sheet_bytes::Reading;
+pub use sheet_bytes::feed;
+pub use sheet_bytes::start;
+pub use sheet_bytes::stopped;
+pub use whole_sheets::Refusal;
+pub use whole_sheets::SheetAnswer;

@@ -7,11 +7,11 @@ use lib.ListN.{length, take, drop, getD}
 use lib.Ieee.{Float}
 use Rattle.lists.specs.Scans.{each}
 use Rattle.float64.specs.Constants.{nought}
-use Rattle.columns.specs.Fields.{wholeOf, realOf}
-use Rattle.columns.specs.declared.fields.WholeField.{WholeField}
-use Rattle.columns.specs.declared.fields.WholeField.the-variants as whole-field
-use Rattle.columns.specs.declared.fields.RealField.{RealField}
-use Rattle.columns.specs.declared.fields.RealField.the-variants as real-field
+use Rattle.field_columns.specs.Fields.{wholeOf, realOf}
+use Rattle.field_columns.specs.declared.fields.WholeField.{WholeField}
+use Rattle.field_columns.specs.declared.fields.WholeField.the-variants as whole-field
+use Rattle.field_columns.specs.declared.fields.RealField.{RealField}
+use Rattle.field_columns.specs.declared.fields.RealField.the-variants as real-field
 use Rattle.sheet_lines.specs.declared.fields.Form.{Form}
 
 -- the columns of a field: field 0 stands right behind the letter

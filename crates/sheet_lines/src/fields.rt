@@ -3,8 +3,9 @@ ghost use Prim.Native.Nat.{_+_, _*_, _≤_};
 ghost use mathlib.Core.Path.{_≡_};
 ghost use Rattle.lists.specs.Scans.{each};
 ghost use Rattle.sheet_lines.specs.Fields.{whole, real, isWhole, isReal, formed};
-use columns::RealField;
-use columns::WholeField;
+ghost use Rattle.sheet_lines.specs.Groups.{isNumber, wholesIn, realsIn};
+use field_columns::RealField;
+use field_columns::WholeField;
 
 // A letter stands before the fields.
 const LETTER_COLUMNS: usize = 1;
@@ -12,6 +13,21 @@ const LETTER_COLUMNS: usize = 1;
 const FIELD_COLUMNS: usize = 12;
 
 const LINE_FEED: u8 = 10;
+
+// The first three fields of an S, C or B line.
+pub struct Wholes {
+    pub first: u64,
+    pub second: u64,
+    pub third: u64,
+}
+
+// Four fields that may have a point.
+pub struct Reals {
+    pub first: f64,
+    pub second: f64,
+    pub third: f64,
+    pub fourth: f64,
+}
 
 // Which fields of a line are whole numbers and which may have a point: from which field on, and how many.
 pub struct Form {
@@ -27,7 +43,7 @@ pub fn whole(line: &[u8], field: usize) -> u64
     ensures { λ r. ⌜ r ≡ whole (now (line .entry)) field ⌝ }
 {
     let at = LETTER_COLUMNS + FIELD_COLUMNS * field;
-    let WholeField::Whole(n) = columns::whole_at(line, at) else {
+    let WholeField::Whole(n) = field_values::whole_at(line, at) else {
         return 0;
     };
     n
@@ -39,10 +55,34 @@ pub fn real(line: &[u8], field: usize) -> f64
     ensures { λ r. ⌜ r ≡ real (now (line .entry)) field ⌝ }
 {
     let at = LETTER_COLUMNS + FIELD_COLUMNS * field;
-    let RealField::Real(x) = columns::real_at(line, at) else {
+    let RealField::Real(x) = field_values::real_at(line, at) else {
         return 0.0;
     };
     x
+}
+
+// The whole numbers in the first three fields.
+pub fn three_wholes(line: &[u8]) -> Wholes
+    ensures { λ r. ⌜ r ≡ wholesIn (now (line .entry)) ⌝ }
+{
+    Wholes {
+        first: whole(line, 0),
+        second: whole(line, 1),
+        third: whole(line, 2),
+    }
+}
+
+// The numbers in four fields from `field` on.
+pub fn four_reals(line: &[u8], field: usize) -> Reals
+    requires { ⌜ field ≤ 7 ⌝ }
+    ensures { λ r. ⌜ r ≡ realsIn (now (line .entry)) field ⌝ }
+{
+    Reals {
+        first: real(line, field),
+        second: real(line, field + 1),
+        third: real(line, field + 2),
+        fourth: real(line, field + 3),
+    }
 }
 
 fn is_whole(line: &[u8], field: usize) -> bool
@@ -50,7 +90,7 @@ fn is_whole(line: &[u8], field: usize) -> bool
     ensures { λ r. ⌜ r ≡ isWhole (now (line .entry)) field ⌝ }
 {
     let at = LETTER_COLUMNS + FIELD_COLUMNS * field;
-    let WholeField::Whole(_) = columns::whole_at(line, at) else {
+    let WholeField::Whole(_) = field_values::whole_at(line, at) else {
         return false;
     };
     true
@@ -61,36 +101,31 @@ fn is_real(line: &[u8], field: usize) -> bool
     ensures { λ r. ⌜ r ≡ isReal (now (line .entry)) field ⌝ }
 {
     let at = LETTER_COLUMNS + FIELD_COLUMNS * field;
-    let RealField::Real(_) = columns::real_at(line, at) else {
+    let RealField::Real(_) = field_values::real_at(line, at) else {
         return false;
     };
     true
 }
 
-// Whether `count` fields from `first` on are whole numbers.
-fn are_whole(line: &[u8], first: usize, count: usize) -> bool
-    requires { ⌜ first + count ≤ 11 ⌝ }
-    ensures { λ r. ⌜ r ≡ each count (λ k. isWhole (now (line .entry)) (first + k)) ⌝ }
+// Whether a field is a whole number, or, where `wholes` is false, a number that may have a point.
+fn is_number(line: &[u8], field: usize, wholes: bool) -> bool
+    requires { ⌜ field ≤ 11 ⌝ }
+    ensures { λ r. ⌜ r ≡ isNumber wholes (now (line .entry)) field ⌝ }
 {
-    let mut k = 0;
-    while k < count {
-        if is_whole(line, first + k) {
-            k += 1;
-        } else {
-            return false;
-        }
+    if wholes {
+        return is_whole(line, field);
     }
-    true
+    is_real(line, field)
 }
 
-// Whether `count` fields from `first` on are numbers.
-fn are_real(line: &[u8], first: usize, count: usize) -> bool
+// Whether `count` fields from `first` on are such numbers.
+fn are_numbers(line: &[u8], first: usize, count: usize, wholes: bool) -> bool
     requires { ⌜ first + count ≤ 11 ⌝ }
-    ensures { λ r. ⌜ r ≡ each count (λ k. isReal (now (line .entry)) (first + k)) ⌝ }
+    ensures { λ r. ⌜ r ≡ each count (λ k. isNumber wholes (now (line .entry)) (first + k)) ⌝ }
 {
     let mut k = 0;
     while k < count {
-        if is_real(line, first + k) {
+        if is_number(line, first + k, wholes) {
             k += 1;
         } else {
             return false;
@@ -111,8 +146,8 @@ pub fn is_formed(line: &[u8], form: Form) -> bool
     if line[end] != LINE_FEED {
         return false;
     }
-    if are_whole(line, form.first_whole, form.wholes) {
-        return are_real(line, form.first_real, form.reals);
+    if are_numbers(line, form.first_whole, form.wholes, true) {
+        return are_numbers(line, form.first_real, form.reals, false);
     }
     false
 }

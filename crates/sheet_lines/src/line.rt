@@ -2,8 +2,10 @@
 ghost use mathlib.Core.Path.{_≡_};
 ghost use Rattle.sheet_lines.specs.Lines.{lineOf, timesLine, orderLine, stationLine, cableLine, breakerLine, topologyOf, breakerTypeOf};
 use crate::fields::Form;
+use crate::fields::four_reals;
 use crate::fields::is_formed;
 use crate::fields::real;
+use crate::fields::three_wholes;
 use crate::fields::whole;
 use grid::ConverterStation;
 use grid::ConverterTopology;
@@ -115,19 +117,22 @@ fn station_line(line: &[u8]) -> SheetLine
     ensures { λ r. ⌜ r ≡ stationLine (now (line .entry)) ⌝ }
 {
     if is_formed(line, STATION) {
-        let topology = whole(line, 0);
-        let submodules = whole(line, 1);
+        let numbers = three_wholes(line);
+        let topology = numbers.first;
+        let submodules = numbers.second;
+        let outer = four_reals(line, 3);
+        let inner = four_reals(line, 7);
         let station = ConverterStation {
-            id: whole(line, 2),
+            id: numbers.third,
             topology: topology_of(topology, submodules),
-            v_dc_rated_kv: real(line, 3),
-            p_rated_mw: real(line, 4),
-            x_transformer_pu: real(line, 5),
-            scr: real(line, 6),
-            control_angle_deg: real(line, 7),
-            x_commutation_pu: real(line, 8),
-            arm_inductance_mh: real(line, 9),
-            sm_capacitance_uf: real(line, 10),
+            v_dc_rated_kv: outer.first,
+            p_rated_mw: outer.second,
+            x_transformer_pu: outer.third,
+            scr: outer.fourth,
+            control_angle_deg: inner.first,
+            x_commutation_pu: inner.second,
+            arm_inductance_mh: inner.third,
+            sm_capacitance_uf: inner.fourth,
         };
         let known = (topology <= 3) & ((submodules == 0) | (topology == 2));
         return SheetLine::Station { station, known };
@@ -140,14 +145,16 @@ fn cable_line(line: &[u8]) -> SheetLine
     ensures { λ r. ⌜ r ≡ cableLine (now (line .entry)) ⌝ }
 {
     if is_formed(line, CABLE) {
+        let numbers = three_wholes(line);
+        let rates = four_reals(line, 3);
         return SheetLine::Cable(DcCable {
-            id: whole(line, 0),
-            from_station: whole(line, 1),
-            to_station: whole(line, 2),
-            r_per_km: real(line, 3),
-            l_per_km: real(line, 4),
-            c_per_km: real(line, 5),
-            length_km: real(line, 6),
+            id: numbers.first,
+            from_station: numbers.second,
+            to_station: numbers.third,
+            r_per_km: rates.first,
+            l_per_km: rates.second,
+            c_per_km: rates.third,
+            length_km: rates.fourth,
         });
     }
     SheetLine::Wrong
@@ -177,14 +184,16 @@ fn breaker_line(line: &[u8]) -> SheetLine
     ensures { λ r. ⌜ r ≡ breakerLine (now (line .entry)) ⌝ }
 {
     if is_formed(line, BREAKER) {
-        let kind = whole(line, 2);
-        let second = real(line, 4);
+        let numbers = three_wholes(line);
+        let kind = numbers.third;
+        let limits = four_reals(line, 3);
+        let second = limits.second;
         let breaker = DcBreaker {
-            id: whole(line, 0),
-            station_id: whole(line, 1),
-            breaker_type: breaker_type_of(kind, real(line, 3), second),
-            max_breaking_current_ka: real(line, 5),
-            energy_absorption_mj: real(line, 6),
+            id: numbers.first,
+            station_id: numbers.second,
+            breaker_type: breaker_type_of(kind, limits.first, second),
+            max_breaking_current_ka: limits.third,
+            energy_absorption_mj: limits.fourth,
         };
         let known = (kind <= 2) & ((second == 0.0) | (kind != 0));
         return SheetLine::Breaker { breaker, known };
@@ -200,11 +209,11 @@ pub fn line_of(line: &[u8]) -> SheetLine
         return SheetLine::Wrong;
     }
     match line[0] {
-        84 => times_line(line),
-        79 => order_line(line),
-        83 => station_line(line),
-        67 => cable_line(line),
-        66 => breaker_line(line),
+        b'T' => times_line(line),
+        b'O' => order_line(line),
+        b'S' => station_line(line),
+        b'C' => cable_line(line),
+        b'B' => breaker_line(line),
         _ => SheetLine::Wrong,
     }
 }

@@ -22,8 +22,10 @@ use Rattle.float64.proofs.SameValue.{same-value}
 use Rattle.lists.proofs.Counting.{compared}
 use Rattle.square_root.proofs.RootNumbers.{square-le, pow-double}
 use Rattle.square_root.proofs.RootPlace.{rooted}
-use Rattle.square_root.proofs.RootNearest.{units-unique, root-fits}
-use Rattle.square_root.proofs.RoundError.{Half, grid-half, drop-reaches, grid-reaches}
+use Rattle.rounding.proofs.Half.{Half}
+use Rattle.rounding.proofs.Multiples.{units-unique}
+use Rattle.square_root.proofs.RootNearest.{root-fits}
+use Rattle.square_root.proofs.RoundError.{grid-half, drop-reaches, grid-reaches}
 
 -- y is Q * 2 ^ k units, with all 53 digits, and 2 ^ -511 at least
 pub record Normal (y : Float) : Type 0 where

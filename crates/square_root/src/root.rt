@@ -124,8 +124,8 @@ fn next_digit(s: Floor, two: u64) -> Floor
     }
 }
 
-// v where t is at most rest, else 0. The digits of a root follow no pattern, so they are chosen without a branch: a branch on them
-// would be foretold wrong every other time.
+// v where t is at most rest, else 0. The digits of a root follow no pattern, so they are chosen without a branch: a processor would
+// mispredict about half of the branches on them.
 fn within(t: u64, rest: u64, v: u64) -> u64
     ensures { λ r. ⌜ r ≡ cond (leb t rest) v 0 ⌝ }
 {

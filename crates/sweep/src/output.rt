@@ -6,9 +6,9 @@ use listing_text::refusal_text;
 use listing_text::row_text;
 
 const ROW_LENGTH: usize = 8;
-// Of 64 rows, which is more than a cable has cases.
+// Room for 64 rows, more than a cable has cases.
 pub const MEMORY: usize = 512;
-// Where the last of them starts.
+// Where the last row starts.
 const LAST: usize = MEMORY - ROW_LENGTH;
 
 fn row_at(memory: &[u64; MEMORY], at: usize) -> [u64; 8]

@@ -6,7 +6,7 @@ use native.Mathlib.Omega.{arith}
 use borrow.Author.Needs.{needs}
 use lib.ListN.{take}
 use Rattle.io.specs.Counts.{Counts}
-use Rattle.sheet.specs.Bytes.{startOf, byteTaken}
+use Rattle.sheet_bytes.specs.Bytes.{startOf, byteTaken}
 use Rattle.sweep.specs.Turns.{Within}
 use Rattle.sweep.proofs.main.Statement.{statement}
 use Rattle.sweep.proofs.main.Tie as tie

@@ -1,35 +1,17 @@
+use mathlib.Core.Path.{_∙_}
 use Rattle.listing_text.proofs.Written.{refusal-written}
 use borrow.Author.Needs.{needs}
 use Rattle.listing_text.proofs.lines.refusal_text.Statement.{statement}
 use Rattle.listing_text.proofs.lines.refusal_text.Tie as tie
 
-array-write-text : tie.Need-array-write-text
-array-write-text c = search needs
+slice-aggregate-put-two : tie.Need-slice-aggregate-put-two
+slice-aggregate-put-two c = search needs
 
-slice-aggregate-put-number : tie.Need-slice-aggregate-put-number
-slice-aggregate-put-number c = search needs
-
-put-number-requires : tie.Need-put-number-requires
-put-number-requires c κs = search needs
-
-slice-aggregate-put-number-2 : tie.Need-slice-aggregate-put-number-2
-slice-aggregate-put-number-2 c = search needs
-
-put-number-requires-2 : tie.Need-put-number-requires-2
-put-number-requires-2 c κs = search needs
+put-two-requires : tie.Need-put-two-requires
+put-two-requires c κs = search needs
 
 returns : tie.Need-returns
-returns c =
-    let a = c .before .before .before .before .before .before .args in
-    refusal-written (a .number) (a .line) (c .before .before .before .before .put-number .last .0) (c .before .put-number2 .last .0) (c .before .before .before .before .put-number .ensures) (c .before .put-number2 .ensures)
+returns c = let a = c .before .before .before .args in c .before .put-two .ensures ∙ refusal-written (a .number) (a .line)
 
 pub refusal-text-spec : {M : Type 1} → statement M
-refusal-text-spec =
-    tie.close
-    (tie.spec
-    array-write-text
-    slice-aggregate-put-number
-    put-number-requires
-    slice-aggregate-put-number-2
-    put-number-requires-2
-    returns)
+refusal-text-spec = tie.close (tie.spec slice-aggregate-put-two put-two-requires returns)

@@ -29,19 +29,19 @@ returns-2 : tie.Need-returns-2
 unfolding formed
 returns-2 c = simp (eq-eqb _ _ (c .before .before .if1 .left), ne-eqb _ _ (c .if2 .taken))
 
-are-whole-requires : tie.Need-are-whole-requires
-are-whole-requires c κs = search needs
+are-numbers-requires : tie.Need-are-numbers-requires
+are-numbers-requires c κs = search needs
 
-are-real-requires : tie.Need-are-real-requires
-are-real-requires c κs = search needs
+are-numbers-requires-2 : tie.Need-are-numbers-requires-2
+are-numbers-requires-2 c κs = search needs
 
 returns-3 : tie.Need-returns-3
 unfolding formed
-returns-3 c = simp (eq-eqb _ _ (c .before .before .before .before .before .if1 .left), eq-eqb _ _ (c .before .before .before .if2 .left), sym (c .before .before .are-whole .ensures) ∙ c .before .if3 .taken) (c .are-real .ensures)
+returns-3 c = simp (eq-eqb _ _ (c .before .before .before .before .before .if1 .left), eq-eqb _ _ (c .before .before .before .if2 .left), sym (c .before .before .are-numbers .ensures) ∙ c .before .if3 .taken) (c .are-numbers2 .ensures)
 
 returns-4 : tie.Need-returns-4
 unfolding formed
-returns-4 c = simp (eq-eqb _ _ (c .before .before .before .before .if1 .left), eq-eqb _ _ (c .before .before .if2 .left), sym (c .before .are-whole .ensures) ∙ c .if3 .left)
+returns-4 c = simp (eq-eqb _ _ (c .before .before .before .before .if1 .left), eq-eqb _ _ (c .before .before .if2 .left), sym (c .before .are-numbers .ensures) ∙ c .if3 .left)
 
 pub is-formed-spec : {M : Type 1} → statement M
 is-formed-spec =
@@ -54,7 +54,7 @@ is-formed-spec =
     returns
     shared-slice-read-if2
     returns-2
-    are-whole-requires
-    are-real-requires
+    are-numbers-requires
+    are-numbers-requires-2
     returns-3
     returns-4)

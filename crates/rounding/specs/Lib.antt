@@ -1,0 +1,2 @@
+-- "the nearest double": distances compared as whole numbers
+pub mod Nearest

@@ -1,0 +1,2 @@
+-- a sheet read a byte at a time
+pub mod Bytes

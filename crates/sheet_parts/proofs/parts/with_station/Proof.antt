@@ -1,0 +1,28 @@
+-- `with_station` meets its contract. Assumes nothing.
+use mathlib.Core.Path.{_≡_, refl, sym, _∙_, ap}
+use borrow.Author.Tests.{eq-eqb, ne-eqb, lt-ltb, le-ltb}
+use Rattle.sheet_parts.specs.Parts.{stationTaken}
+use borrow.Author.Needs.{needs}
+use Rattle.sheet_parts.proofs.parts.with_station.Statement.{statement}
+use Rattle.sheet_parts.proofs.parts.with_station.Tie as tie
+
+counted-on-requires : tie.Need-counted-on-requires
+counted-on-requires c κs = search needs
+
+mul-station : tie.Need-mul-station
+mul-station c = search needs
+
+element-set-from-station : tie.Need-element-set-from-station
+element-set-from-station c = search needs
+
+returns : tie.Need-returns
+unfolding stationTaken
+returns c = rw (lt-ltb _ _ (c .if1 .taken), c .before .counted-on .ensures)
+
+returns-2 : tie.Need-returns-2
+unfolding stationTaken
+returns-2 c = rw (le-ltb _ _ (c .if1 .left), c .before .counted-on .ensures)
+
+pub with-station-spec : {M : Type 1} → statement M
+with-station-spec =
+    tie.close (tie.spec counted-on-requires mul-station element-set-from-station returns returns-2)

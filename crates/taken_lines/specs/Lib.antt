@@ -1,0 +1,2 @@
+-- a sheet with a line more
+pub mod Taken

@@ -1,0 +1,2 @@
+-- worked examples of the definitions
+mod Controls
