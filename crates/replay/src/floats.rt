@@ -1,26 +1,24 @@
 // Job 8: an operation on doubles.
-use crate::After;
 use crate::numbers;
 use crate::numbers::Cursor;
 use crate::numbers::ROOM;
-use crate::numbers::Taken;
 
-// The operation, then two doubles by their bits; the answer is the result by its bits.
-pub fn answer(lines: &mut [u8; ROOM], answers: &mut [u8; ROOM], c: Cursor) -> After {
-    let Taken::Number(operation, c) = numbers::next(lines, c) else {
-        return After::Nothing(c);
-    };
-    let Taken::Number(a, c) = numbers::next(lines, c) else {
-        return After::Nothing(c);
-    };
-    let Taken::Number(b, c) = numbers::next(lines, c) else {
-        return After::Nothing(c);
-    };
-    if operation > 5 {
-        return After::Nothing(c);
-    }
-    let result = result_of(operation, float64::from_bits(a), float64::from_bits(b));
-    After::Job(numbers::append_double(answers, c, result))
+// The last operation.
+const MIN: u64 = 5;
+
+// The operation, then two doubles by their bits; the answer is the result by its bits. The reading ends at an operation that there is
+// not.
+pub fn answer(lines: &mut [u8; ROOM], answers: &mut [u8; ROOM], c: Cursor) -> Cursor {
+    let row = numbers::next_row(lines, c, 3);
+    let n = row.numbers;
+    let d = row.doubles;
+    let c = row.c;
+    let result = result_of(n[0], d[1], d[2]);
+    numbers::append(
+        answers,
+        numbers::ended_if(c, n[0] > MIN),
+        float64::to_bits(result),
+    )
 }
 
 // The operations that take one double ignore b.

@@ -1,112 +1,67 @@
 // States of a grid as the jobs give them, and job 6, which looks at two.
-ghost use Prim.Native.Nat.{_+_, _≤_};
-use crate::After;
 use crate::grids;
+use crate::grids::BREAKERS;
+use crate::grids::CABLES;
+use crate::grids::STATIONS;
 use crate::numbers;
 use crate::numbers::Cursor;
+use crate::numbers::LONGEST;
 use crate::numbers::ROOM;
-use crate::numbers::Skipped;
-use crate::numbers::Taken;
 use detection::detect_fault;
 use grid::DcSwitchingSimulator;
 use state_derivatives::DcTransientState;
 
-// A state, and the cursor past it. An enum cannot hold an array, so that the reading has ended is a field of its own; the state
-// then means nothing.
+// A state, and the cursor past it. Once the reading has ended the state means nothing.
 pub struct StateRead {
     pub state: DcTransientState,
     pub c: Cursor,
-    pub ended: bool,
 }
 
 // Job 6: a grid and two states of it, the later first. The answer is a refusal, and 1 or 0 if it is 0.
-pub fn detection(lines: &mut [u8; ROOM], answers: &mut [u8; ROOM], c: Cursor) -> After {
-    let r = grids::read_grid(lines, c);
-    if r.ended {
-        return After::Nothing(c);
-    }
+pub fn detection(lines: &mut [u8; ROOM], answers: &mut [u8; ROOM], c: Cursor) -> Cursor {
+    let r = grids::read_given(lines, c, 0);
     let g = r.grid;
-    let c = r.c;
-    let later = read_timed_state(lines, c, g);
-    if later.ended {
-        return After::Nothing(c);
-    }
-    let c = later.c;
-    let earlier = read_timed_state(lines, c, g);
-    if earlier.ended {
-        return After::Nothing(c);
-    }
-    let c = earlier.c;
-    let state = later.state;
-    let prev = earlier.state;
-    let answer = detect_fault(g, state, prev);
+    let later = read_timed_state(lines, r.c, g);
+    let earlier = read_timed_state(lines, later.c, g);
+    let answer = detect_fault(g, later.state, earlier.state);
     let verdict = answer.verdict;
     let refusal = rules::number(verdict);
-    let c = numbers::append(answers, c, refusal);
+    let c = numbers::append(answers, earlier.c, refusal);
     if refusal > 0 {
-        return After::Job(c);
+        return c;
     }
-    After::Job(numbers::append_bool(answers, c, answer.detected))
+    numbers::append_bool(answers, c, answer.detected)
 }
 
 // The time, then the state.
 fn read_timed_state(lines: &mut [u8; ROOM], c: Cursor, g: DcSwitchingSimulator) -> StateRead {
-    let Taken::Number(time, c) = numbers::next(lines, c) else {
-        let y = [0.0; 96];
-        return StateRead {
-            state: state_of(0.0, y),
-            c,
-            ended: true,
-        };
-    };
-    read_state(lines, c, g, float64::from_bits(time))
+    let row = numbers::next_row(lines, c, 1);
+    let d = row.doubles;
+    read_state(lines, row.c, g, d[0])
 }
 
-// Station voltages, then cable currents, as many as the counts, but at most 32 and 64.
+// Station voltages, then cable currents, as many as the counts, but no more than there is room for.
 pub fn read_state(
     lines: &mut [u8; ROOM],
     c: Cursor,
     g: DcSwitchingSimulator,
     time_ms: f64,
 ) -> StateRead {
-    let voltages = grids::cut(g.n_stations as u64, 32);
-    let currents = grids::cut(g.n_cables as u64, 64);
-    let mut y = [0.0; 96];
-    let Skipped::To(c) = read_entries(lines, c, &mut y, (voltages + currents) as usize) else {
-        return StateRead {
-            state: state_of(time_ms, y),
-            c,
-            ended: true,
-        };
-    };
+    let voltages = numbers::cut(g.n_stations, STATIONS);
+    let currents = numbers::cut(g.n_cables, CABLES);
+    let row = numbers::next_row(lines, c, voltages + currents);
+    let y = row.doubles;
+    let c = row.c;
     StateRead {
         state: state_of(time_ms, y),
         c,
-        ended: false,
     }
-}
-
-// The first n entries.
-fn read_entries(lines: &mut [u8; ROOM], c: Cursor, y: &mut [f64; 96], n: usize) -> Skipped
-    requires { ⌜ n ≤ 96 ⌝ }
-{
-    let mut at = c;
-    let mut i = 0;
-    while i < n {
-        let Taken::Number(x, past) = numbers::next(lines, at) else {
-            return Skipped::Ended;
-        };
-        y[i] = float64::from_bits(x);
-        at = past;
-        i += 1;
-    }
-    Skipped::To(at)
 }
 
 // What a job does not give is at rest.
-fn state_of(time_ms: f64, y: [f64; 96]) -> DcTransientState {
-    let station_currents_ka = [0.0; 32];
-    let breaker_states = [true; 32];
+fn state_of(time_ms: f64, y: [f64; LONGEST]) -> DcTransientState {
+    let station_currents_ka = [0.0; STATIONS];
+    let breaker_states = [true; BREAKERS];
     DcTransientState {
         time_ms,
         y,
@@ -116,49 +71,39 @@ fn state_of(time_ms: f64, y: [f64; 96]) -> DcTransientState {
     }
 }
 
-// Station voltages, station currents and cable currents, as many as the counts, but at most 32 and 64.
+// Station voltages, station currents and cable currents, as many as the counts, but no more than there is room for.
 pub fn append_state(
     answers: &mut [u8; ROOM],
     c: Cursor,
     g: DcSwitchingSimulator,
     state: DcTransientState,
 ) -> Cursor {
-    let y = state.y;
-    let station_currents_ka = state.station_currents_ka;
-    let n = grids::cut(g.n_stations as u64, 32) as usize;
-    let m = grids::cut(g.n_cables as u64, 64) as usize;
-    let c = append_entries(answers, c, y, 0, n);
-    let c = append_currents(answers, c, station_currents_ka, n);
-    append_entries(answers, c, y, n, m)
+    let n = numbers::cut(g.n_stations, STATIONS);
+    let m = numbers::cut(g.n_cables, CABLES);
+    let c = append_entries(answers, c, state, 0, n);
+    let c = append_currents(answers, c, state, n);
+    append_entries(answers, c, state, n, n + m)
 }
 
-// n entries from the first on.
+// The entries of the state from the first one on, up to the end.
 fn append_entries(
     answers: &mut [u8; ROOM],
     c: Cursor,
-    y: [f64; 96],
+    state: DcTransientState,
     first: usize,
-    n: usize,
-) -> Cursor
-    requires { ⌜ first + n ≤ 96 ⌝ }
-{
-    let mut at = c;
-    let mut i = 0;
-    while i < n {
-        at = numbers::append_double(answers, at, y[first + i]);
-        i += 1;
-    }
-    at
+    end: usize,
+) -> Cursor {
+    let y = state.y;
+    numbers::append_doubles(answers, c, &y, first, end)
 }
 
-fn append_currents(answers: &mut [u8; ROOM], c: Cursor, currents: [f64; 32], n: usize) -> Cursor
-    requires { ⌜ n ≤ 32 ⌝ }
-{
-    let mut at = c;
-    let mut i = 0;
-    while i < n {
-        at = numbers::append_double(answers, at, currents[i]);
-        i += 1;
-    }
-    at
+// The first n station currents.
+fn append_currents(
+    answers: &mut [u8; ROOM],
+    c: Cursor,
+    state: DcTransientState,
+    n: usize,
+) -> Cursor {
+    let currents = state.station_currents_ka;
+    numbers::append_doubles(answers, c, &currents, 0, n)
 }

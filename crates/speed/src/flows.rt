@@ -12,9 +12,7 @@ pub fn sum_losses(r: Request) -> f64 {
     let mut mw = r.first;
     let mut left = r.count;
     while 0 < left {
-        let mut station = grid.stations[1];
-        station.p_rated_mw = mw;
-        grid.stations[1] = station;
+        grid = with_power(grid, mw);
         sum += losses_and_passes(grid);
         mw += r.step;
         left -= 1;
@@ -22,6 +20,16 @@ pub fn sum_losses(r: Request) -> f64 {
     sum
 }
 
+// The grid with that power at its second station.
+fn with_power(g: DcSwitchingSimulator, mw: f64) -> DcSwitchingSimulator {
+    let mut grid = g;
+    let mut station = grid.stations[1];
+    station.p_rated_mw = mw;
+    grid.stations[1] = station;
+    grid
+}
+
+// The total losses of the grid's flow and its passes, added.
 fn losses_and_passes(grid: DcSwitchingSimulator) -> f64 {
     let answer = solve_dc_power_flow(grid);
     let solution = answer.solution;
