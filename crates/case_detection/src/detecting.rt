@@ -10,6 +10,8 @@ ghost use Rattle.case_steps.specs.Plans.{planCaseFrom};
 use case_steps::OpenCase;
 use detection::shows_fault;
 use fault_plan::FaultPlan;
+use grid::MOST_CABLES;
+use grid::MOST_STATIONS;
 use run_start::step_time_ms;
 use state_derivatives::StageSetting;
 use state_derivatives::StageState;
@@ -93,11 +95,11 @@ fn shows_before_clearing(plan: FaultPlan, first: u64, end: u64, start: OpenCase)
 
 // The voltages and cable currents after a step: moved from inception on, as they are before.
 fn numbers_after(
-    from: &[usize; 64],
-    to: &[usize; 64],
-    r: &[f64; 64],
-    l: &[f64; 64],
-    c: &[f64; 32],
+    from: &[usize; MOST_CABLES],
+    to: &[usize; MOST_CABLES],
+    r: &[f64; MOST_CABLES],
+    l: &[f64; MOST_CABLES],
+    c: &[f64; MOST_STATIONS],
     setting: StepSetting,
     start: StageState,
 ) -> StageState

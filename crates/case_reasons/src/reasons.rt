@@ -7,11 +7,10 @@ ghost use Rattle.case_reasons.specs.Reasons.{exceeds, atEnd, limitOf, ex
 use grid::DcBreaker;
 use grid::DcCable;
 use grid::DcSwitchingSimulator;
+use grid::MOST_BREAKERS;
 use grid::present;
 
 const MOST_CABLES: u64 = 64;
-
-const MOST_BREAKERS: usize = 32;
 
 // What the reasons and the row are read from, once all steps of a case are made.
 pub struct CaseOutcome {
@@ -80,7 +79,7 @@ fn cable_at(g: DcSwitchingSimulator, number: u64) -> DcCable
 
 // A limit of some breaker at an end of the cable is exceeded.
 fn some_exceeded(
-    breakers: [DcBreaker; 32],
+    breakers: [DcBreaker; MOST_BREAKERS],
     n: usize,
     cable: DcCable,
     limit: Limit,

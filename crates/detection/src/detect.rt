@@ -8,6 +8,8 @@ ghost use Rattle.detection.specs.Detection.{timeBetween, fast, low, show
 use float64::abs;
 use float64::max;
 use grid::DcSwitchingSimulator;
+use grid::MOST_CABLES;
+use grid::MOST_STATIONS;
 use grid::present;
 use rules::Verdict;
 use rules::check_detection;
@@ -79,8 +81,8 @@ pub fn shows_fault(
 ) -> bool
     ensures { λ r. ⌜ r ≡ shownBy (now («rated_kv» .entry)) «n_stations» «n_cables» (now (y .entry)) (now (before .entry)) «time_ms» «before_ms» ⌝ }
 {
-    let n = present(n_stations, 32);
-    let m = present(n_cables, 64);
+    let n = present(n_stations, MOST_STATIONS);
+    let m = present(n_cables, MOST_CABLES);
     let dt_ms = time_between(time_ms, before_ms);
     let fast = some_current_fast(y, before, dt_ms, n, m);
     let low = some_voltage_low(rated_kv, y, n);

@@ -4,6 +4,7 @@ ghost use Rattle.fault_cases.specs.Cases.{tenthsOf, casesOf, placeOf, fa
 use grid::DcFaultEvent;
 use grid::DcFaultType;
 use grid::DcSwitchingSimulator;
+use grid::MOST_CABLES;
 use grid::SweepOrder;
 use grid::present;
 use std::num::nearest_u64_to_f64;
@@ -12,8 +13,6 @@ use std::num::nearest_u64_to_f64;
 const FAULT_TYPES: u64 = 3;
 
 const MOST_TENTHS: u64 = 10;
-
-const MOST_CABLES: usize = 64;
 
 // Where and of which type the fault of a case is.
 pub struct CasePlace {

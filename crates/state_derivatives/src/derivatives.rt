@@ -11,6 +11,8 @@ ghost use Rattle.network.specs.Network.{stationCount, cableCount, end};
 ghost use Rattle.state_derivatives.specs.Derivatives.{passed, net, drainCurrent, drained, cableRate, derivatives};
 use crate::state::StageSlopes;
 use crate::state::StageState;
+use grid::MOST_CABLES;
+use grid::MOST_STATIONS;
 use grid::cut_end;
 use grid::present;
 use network::Drain;
@@ -39,20 +41,20 @@ pub struct StageSetting {
 
 // DcSwitchingSimulator::state_derivatives. A count past the tables takes all of them.
 pub fn state_derivatives(
-    from: &[usize; 64],
-    to: &[usize; 64],
-    r: &[f64; 64],
-    l: &[f64; 64],
-    c: &[f64; 32],
+    from: &[usize; MOST_CABLES],
+    to: &[usize; MOST_CABLES],
+    r: &[f64; MOST_CABLES],
+    l: &[f64; MOST_CABLES],
+    c: &[f64; MOST_STATIONS],
     setting: StageSetting,
     state: StageState,
 ) -> StageSlopes
     ensures { λ k. ⌜ k .dy ≡ derivatives (end (now (from .entry))) (end (now (to .entry))) (of (now (r .entry))) (of (now (l .entry))) (of (now (c .entry))) (setting .drain) (stationCount (setting .n)) (cableCount (setting .m)) (state .y) ⌝ }
 {
-    let n = present(setting.n, 32);
-    let m = present(setting.m, 64);
+    let n = present(setting.n, MOST_STATIONS);
+    let m = present(setting.m, MOST_CABLES);
     let y = state.y;
-    let mut nets = [0.0; 32];
+    let mut nets = [0.0; MOST_STATIONS];
     add_currents(&mut nets, from, to, &y, n, m);
     drain_ends(&mut nets, setting.drain, &y, n);
     let mut dy = [0.0; 96];
@@ -63,18 +65,18 @@ pub fn state_derivatives(
 
 // The current into each station. A count past the tables takes all of them.
 pub fn net_currents(
-    from: &[usize; 64],
-    to: &[usize; 64],
+    from: &[usize; MOST_CABLES],
+    to: &[usize; MOST_CABLES],
     state: StageState,
     n_stations: usize,
     n_cables: usize,
-) -> [f64; 32]
+) -> [f64; MOST_STATIONS]
     ensures { λ r. ⌜ r ≡ padded 32 (stationCount «n_stations») (net (end (now (from .entry))) (end (now (to .entry))) (stationCount «n_stations») (state .y) (cableCount «n_cables»)) nought ⌝ }
 {
-    let n = present(n_stations, 32);
-    let m = present(n_cables, 64);
+    let n = present(n_stations, MOST_STATIONS);
+    let m = present(n_cables, MOST_CABLES);
     let y = state.y;
-    let mut nets = [0.0; 32];
+    let mut nets = [0.0; MOST_STATIONS];
     add_currents(&mut nets, from, to, &y, n, m);
     nets
 }
@@ -82,9 +84,9 @@ pub fn net_currents(
 // The current into each station, into zeros. One pass over the cables: to each station's sum they are added in their order, as if the
 // cables were gone through for each station.
 fn add_currents(
-    nets: &mut [f64; 32],
-    from: &[usize; 64],
-    to: &[usize; 64],
+    nets: &mut [f64; MOST_STATIONS],
+    from: &[usize; MOST_CABLES],
+    to: &[usize; MOST_CABLES],
     y: &[f64; 96],
     n: usize,
     m: usize,
@@ -100,7 +102,7 @@ fn add_currents(
 }
 
 // Into the station at its second end, and out of the one at its first unless the two are one.
-fn pass_current(nets: &mut [f64; 32], from: usize, to: usize, current: f64, n: usize)
+fn pass_current(nets: &mut [f64; MOST_STATIONS], from: usize, to: usize, current: f64, n: usize)
     requires { ⌜ n ≤ 32 ⌝ }
     ensures { λ _. ⌜ now (nets .exit) ≡ over n (λ i. passed from to current i (of (now (nets .entry)) i)) nan (now (nets .entry)) ⌝ }
 {
@@ -115,7 +117,7 @@ fn pass_current(nets: &mut [f64; 32], from: usize, to: usize, current: f64, n: u
 }
 
 // Out of the stations at both ends of the faulted cable, once if the two are one.
-fn drain_ends(nets: &mut [f64; 32], drain: Drain, y: &[f64; 96], n: usize)
+fn drain_ends(nets: &mut [f64; MOST_STATIONS], drain: Drain, y: &[f64; 96], n: usize)
     requires { ⌜ n ≤ 32 ⌝ }
     ensures { λ _. ⌜ now (nets .exit) ≡ over n (λ i. drained drain (now (y .entry)) i (of (now (nets .entry)) i)) nan (now (nets .entry)) ⌝ }
 {
@@ -138,7 +140,12 @@ fn drain_current(drain: Drain, v_kv: f64) -> f64
 }
 
 // The rates of the voltages, into zeros.
-fn station_rates(dy: &mut [f64; 96], nets: &[f64; 32], c: &[f64; 32], n: usize)
+fn station_rates(
+    dy: &mut [f64; 96],
+    nets: &[f64; MOST_STATIONS],
+    c: &[f64; MOST_STATIONS],
+    n: usize,
+)
     requires { ⌜ (n ≤ 32) × (dy .now ≡ blank 96 nought) ⌝ }
     ensures { λ _. ⌜ now (dy .exit) ≡ padded 96 n (λ i. of (now (nets .entry)) i ⊘ of (now (c .entry)) i) nought ⌝ }
 {
@@ -162,10 +169,10 @@ fn station_rate(s: StationStage) -> f64
 // The rates of the currents, after those of the voltages.
 fn cable_rates(
     dy: &mut [f64; 96],
-    from: &[usize; 64],
-    to: &[usize; 64],
-    r: &[f64; 64],
-    l: &[f64; 64],
+    from: &[usize; MOST_CABLES],
+    to: &[usize; MOST_CABLES],
+    r: &[f64; MOST_CABLES],
+    l: &[f64; MOST_CABLES],
     y: &[f64; 96],
     n: usize,
     m: usize,

@@ -10,6 +10,8 @@ ghost use Rattle.network.specs.Network.{stationCount, cableCount, end};
 ghost use Rattle.state_derivatives.specs.Derivatives.{derivatives};
 ghost use Rattle.transient.specs.Rk4.{ahead, blended, weighted, newState, rk4Step};
 use float64::max;
+use grid::MOST_CABLES;
+use grid::MOST_STATIONS;
 use grid::present;
 use network::Drain;
 use network::Network;
@@ -69,11 +71,11 @@ pub fn rk4_step(
 
 // The voltages and cable currents after such a step, without the rest of the state. A count past the tables takes all of them.
 pub fn moved_numbers(
-    from: &[usize; 64],
-    to: &[usize; 64],
-    r: &[f64; 64],
-    l: &[f64; 64],
-    c: &[f64; 32],
+    from: &[usize; MOST_CABLES],
+    to: &[usize; MOST_CABLES],
+    r: &[f64; MOST_CABLES],
+    l: &[f64; MOST_CABLES],
+    c: &[f64; MOST_STATIONS],
     setting: StageSetting,
     start: StageState,
     dt_s: f64,
@@ -92,19 +94,19 @@ pub fn moved_numbers(
     let k2 = slopes_ahead(from, to, r, l, c, half_on, start, k1);
     let k3 = slopes_ahead(from, to, r, l, c, half_on, start, k2);
     let k4 = slopes_ahead(from, to, r, l, c, whole_on, start, k3);
-    let n = present(setting.n, 32);
-    let m = present(setting.m, 64);
+    let n = present(setting.n, MOST_STATIONS);
+    let m = present(setting.m, MOST_CABLES);
     let moved = blend(start, dt_s / 6.0, k1, k2, k3, k4, n + m);
     raise_voltages(moved, n)
 }
 
 // The slopes at the state that the slopes k lead to.
 fn slopes_ahead(
-    from: &[usize; 64],
-    to: &[usize; 64],
-    r: &[f64; 64],
-    l: &[f64; 64],
-    c: &[f64; 32],
+    from: &[usize; MOST_CABLES],
+    to: &[usize; MOST_CABLES],
+    r: &[f64; MOST_CABLES],
+    l: &[f64; MOST_CABLES],
+    c: &[f64; MOST_STATIONS],
     stage: Stage,
     start: StageState,
     k: StageSlopes,
@@ -112,7 +114,7 @@ fn slopes_ahead(
     ensures { λ s. ⌜ s .dy ≡ derivatives (end (now (from .entry))) (end (now (to .entry))) (of (now (r .entry))) (of (now (l .entry))) (of (now (c .entry))) (stage .setting .drain) (stationCount (stage .setting .n)) (cableCount (stage .setting .m)) (ahead (stationCount (stage .setting .n) + cableCount (stage .setting .m)) (start .y) (stage .«ahead_s») (k .dy)) ⌝ }
 {
     let setting = stage.setting;
-    let size = present(setting.n, 32) + present(setting.m, 64);
+    let size = present(setting.n, MOST_STATIONS) + present(setting.m, MOST_CABLES);
     let there = move_along(start, stage.ahead_s, k, size);
     state_derivatives(from, to, r, l, c, setting, there)
 }

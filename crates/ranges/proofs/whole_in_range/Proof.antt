@@ -17,12 +17,9 @@ int-to-float-in-range : tie.Need-int-to-float-in-range
 unfolding inFloat
 int-to-float-in-range c = le→leb _ _ (le-of-lt (c .before .if1 .left))
 
-in-range-requires : tie.Need-in-range-requires
-in-range-requires c κs = search needs
-
 returns-2 : tie.Need-returns-2
 unfolding wholeBetween
 returns-2 c = rw (lt-ltb _ _ (c .before .before .if1 .left)) (c .in-range .ensures)
 
 pub whole-in-range-spec : {M : Type 1} → statement M
-whole-in-range-spec = tie.close (tie.spec returns int-to-float-in-range in-range-requires returns-2)
+whole-in-range-spec = tie.close (tie.spec returns int-to-float-in-range (λ c κs. search needs) returns-2)

@@ -36,12 +36,6 @@ sub-turns c = omega arith
 read-some-requires : tie.Need-read-some-requires Inv-loop μ-loop
 read-some-requires c κs = tt
 
-enum-known-turn : tie.Need-enum-known-turn Inv-loop μ-loop
-enum-known-turn c = search needs
-
-enum-told : tie.Need-enum-told Inv-loop μ-loop
-enum-told c = search needs
-
 answer-requires : tie.Need-answer-requires Inv-loop μ-loop
 answer-requires c κs = tt
 
@@ -91,26 +85,6 @@ pub main-spec : {M : Type 1} → statement M
 main-spec =
     tie.close
     (tie.spec
-    Inv-loop
-    μ-loop
-    large-buffer-requires
-    start-requires
-    loop-holds
-    sub-turns
-    read-some-requires
-    enum-known-turn
-    enum-told
-    answer-requires
-    print-answer-requires
-    returns
-    returns-2
-    array-share-prefix-buffer
-    slice-aggregate-feed
-    feed-requires
-    stopped-requires
-    answer-requires-2
-    print-answer-requires-2
-    returns-3
-    loop-less
-    loop-again
-    returns-4)
+    Inv-loop μ-loop large-buffer-requires start-requires loop-holds sub-turns read-some-requires (λ c. search needs) (λ c. search needs)
+    answer-requires print-answer-requires returns returns-2 array-share-prefix-buffer slice-aggregate-feed feed-requires stopped-requires
+    answer-requires-2 print-answer-requires-2 returns-3 loop-less loop-again returns-4)

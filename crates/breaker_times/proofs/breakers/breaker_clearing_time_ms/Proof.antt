@@ -5,15 +5,6 @@ use borrow.Author.Needs.{needs}
 use Rattle.breaker_times.proofs.breakers.breaker_clearing_time_ms.Statement.{statement}
 use Rattle.breaker_times.proofs.breakers.breaker_clearing_time_ms.Tie as tie
 
-enum-known-breaker-type : tie.Need-enum-known-breaker-type
-enum-known-breaker-type c = search needs
-
-enum-known-breaker-type-2 : tie.Need-enum-known-breaker-type-2
-enum-known-breaker-type-2 c = search needs
-
-enum-known-breaker-type-3 : tie.Need-enum-known-breaker-type-3
-enum-known-breaker-type-3 c = search needs
-
 returns : tie.Need-returns
 unfolding clearingTimeOf
 returns c = ap clearingTimeOf (sym (c .before .breaker-type .given .1))
@@ -27,12 +18,4 @@ unfolding clearingTimeOf
 returns-3 c = ap clearingTimeOf (sym (c .before .breaker-type3 .given .1))
 
 pub breaker-clearing-time-ms-spec : {M : Type 1} → statement M
-breaker-clearing-time-ms-spec =
-    tie.close
-    (tie.spec
-    enum-known-breaker-type
-    enum-known-breaker-type-2
-    enum-known-breaker-type-3
-    returns
-    returns-2
-    returns-3)
+breaker-clearing-time-ms-spec = tie.close (tie.spec (λ c. search needs) (λ c. search needs) (λ c. search needs) returns returns-2 returns-3)

@@ -22,12 +22,6 @@ abbrev μ-loop : tie.MeasureT-loop
 long : (c : tie.Start Inv-loop μ-loop) → length (c .args .g .breakers) ≡ 32
 long c = search (needs, unmapped)
 
-present-requires : tie.Need-present-requires Inv-loop μ-loop
-present-requires c κs = search needs
-
-duration-ms-requires : tie.Need-duration-ms-requires Inv-loop μ-loop
-duration-ms-requires c κs = search needs
-
 returns : tie.Need-returns Inv-loop μ-loop
 unfolding fastestOf
 returns c = rw (eq-eqb (c .before .before .before .args .g .«n_breakers») 0 (omega (arith, c .before .before .present .ensures, c .before .if1 .taken))) (c .duration-ms .ensures)
@@ -40,12 +34,6 @@ mul-b c = omega arith
 
 array-copy-out-b : tie.Need-array-copy-out-b Inv-loop μ-loop
 array-copy-out-b c = omega arith
-
-breaker-clearing-time-ms-requires : tie.Need-breaker-clearing-time-ms-requires Inv-loop μ-loop
-breaker-clearing-time-ms-requires c κs = search needs
-
-faster-of-requires : tie.Need-faster-of-requires Inv-loop μ-loop
-faster-of-requires c κs = search needs
 
 add-i : tie.Need-add-i Inv-loop μ-loop
 add-i c = omega arith
@@ -74,17 +62,5 @@ pub fastest-breaker-clearing-ms-spec : {M : Type 1} → statement M
 fastest-breaker-clearing-ms-spec =
     tie.close
     (tie.spec
-    Inv-loop
-    μ-loop
-    present-requires
-    duration-ms-requires
-    returns
-    loop-holds
-    mul-b
-    array-copy-out-b
-    breaker-clearing-time-ms-requires
-    faster-of-requires
-    add-i
-    loop-less
-    loop-again
-    returns-2)
+    Inv-loop μ-loop (λ c κs. search needs) (λ c κs. search needs) returns loop-holds mul-b array-copy-out-b (λ c κs. search needs)
+    (λ c κs. search needs) add-i loop-less loop-again returns-2)

@@ -5,20 +5,8 @@ use Rattle.case_ends.proofs.Ways.{cleared-end, lasting-way}
 use Rattle.case_ends.proofs.ends.case_end.Statement.{statement}
 use Rattle.case_ends.proofs.ends.case_end.Tie as tie
 
-case-outcome-requires : tie.Need-case-outcome-requires
-case-outcome-requires c κs = search needs
-
 returns : tie.Need-returns
 returns c = let i = c .before in let a = i .before .before .args in c .case-outcome .ensures ∙ sym (cleared-end (a .plan) (a .first) (a .window) (a .c) (i .if1 .taken))
-
-fault-sums-requires : tie.Need-fault-sums-requires
-fault-sums-requires c κs = search needs
-
-is-detected-within-requires : tie.Need-is-detected-within-requires
-is-detected-within-requires c κs = search needs
-
-outcome-from-requires : tie.Need-outcome-from-requires
-outcome-from-requires c κs = search needs
 
 returns-2 : tie.Need-returns-2
 returns-2 c =
@@ -29,12 +17,4 @@ returns-2 c =
     lasting-way (a .plan) (a .first) (a .window) (a .c) (i .if1 .left) (s .fault-sums .ensures) (d .is-detected-within .ensures) (c .outcome-from .ensures)
 
 pub case-end-spec : {M : Type 1} → statement M
-case-end-spec =
-    tie.close
-    (tie.spec
-    case-outcome-requires
-    returns
-    fault-sums-requires
-    is-detected-within-requires
-    outcome-from-requires
-    returns-2)
+case-end-spec = tie.close (tie.spec (λ c κs. search needs) returns (λ c κs. search needs) (λ c κs. search needs) (λ c κs. search needs) returns-2)

@@ -11,24 +11,6 @@ use Rattle.case_ends.proofs.Ways.{site-way}
 use Rattle.case_ends.proofs.ends.site_ends.Statement.{statement}
 use Rattle.case_ends.proofs.ends.site_ends.Tie as tie
 
-site-sums-requires : tie.Need-site-sums-requires
-site-sums-requires c κs = search needs
-
-first-open-case-requires : tie.Need-first-open-case-requires
-first-open-case-requires c κs = search needs
-
-is-detected-within-requires : tie.Need-is-detected-within-requires
-is-detected-within-requires c κs = search needs
-
-outcome-from-requires : tie.Need-outcome-from-requires
-outcome-from-requires c κs = search needs
-
-outcome-from-requires-2 : tie.Need-outcome-from-requires-2
-outcome-from-requires-2 c κs = search needs
-
-outcome-from-requires-3 : tie.Need-outcome-from-requires-3
-outcome-from-requires-3 c κs = search needs
-
 returns : tie.Need-returns
 unfolding siteOf typeFactor
 returns c =
@@ -49,10 +31,4 @@ pub site-ends-spec : {M : Type 1} → statement M
 site-ends-spec =
     tie.close
     (tie.spec
-    site-sums-requires
-    first-open-case-requires
-    is-detected-within-requires
-    outcome-from-requires
-    outcome-from-requires-2
-    outcome-from-requires-3
-    returns)
+    (λ c κs. search needs) (λ c κs. search needs) (λ c κs. search needs) (λ c κs. search needs) (λ c κs. search needs) (λ c κs. search needs) returns)

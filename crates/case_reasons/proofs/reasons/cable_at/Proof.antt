@@ -14,12 +14,6 @@ use Rattle.case_reasons.proofs.reasons.cable_at.Lts as lts
 long : (c : tie.Start) → length (c .args .g .cables) ≡ 64
 long c = search (needs, unmapped)
 
-mul-result : tie.Need-mul-result
-mul-result c = search needs
-
-array-copy-out-result : tie.Need-array-copy-out-result
-array-copy-out-result c = search needs
-
 returns : tie.Need-returns
 returns c = let s = c .before .before .before in getD-within (s .args .g .cables) (s .args .number) _ blankCable (omega (arith, long s, c .before .if1 .taken))
 
@@ -27,4 +21,4 @@ returns-2 : tie.Need-returns-2
 returns-2 c = let s = c .before .before in sym (List·getD-eq-default (s .args .g .cables) blankCable (omega (arith, long s, c .if1 .left)))
 
 pub cable-at-spec : {M : Type 1} → statement M
-cable-at-spec = tie.close (tie.spec mul-result array-copy-out-result returns returns-2)
+cable-at-spec = tie.close (tie.spec (λ c. search needs) (λ c. search needs) returns returns-2)

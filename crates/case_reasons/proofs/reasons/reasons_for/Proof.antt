@@ -12,35 +12,11 @@ use Rattle.case_reasons.proofs.reasons.reasons_for.Tie as tie
 long : (c : tie.Start) → length (c .args .g .breakers) ≡ 32
 long c = search (needs, unmapped)
 
-cable-at-requires : tie.Need-cable-at-requires
-cable-at-requires c κs = search needs
-
-present-requires : tie.Need-present-requires
-present-requires c κs = search needs
-
-some-exceeded-requires : tie.Need-some-exceeded-requires
-some-exceeded-requires c κs = search needs
-
-some-exceeded-requires-2 : tie.Need-some-exceeded-requires-2
-some-exceeded-requires-2 c κs = search needs
-
-weight-requires : tie.Need-weight-requires
-weight-requires c κs = search needs
-
-weight-requires-2 : tie.Need-weight-requires-2
-weight-requires-2 c κs = search needs
-
 add-result : tie.Need-add-result
 add-result c = record { fits = omega (arith, c .weight2 .ensures .1, c .before .before .weight .ensures .1) }
 
-weight-requires-3 : tie.Need-weight-requires-3
-weight-requires-3 c κs = search needs
-
 add-result-2 : tie.Need-add-result-2
 add-result-2 c = record { fits = omega (arith, c .weight3 .ensures .1, c .before .weight2 .ensures .1, c .before .before .before .weight .ensures .1) }
-
-weight-requires-4 : tie.Need-weight-requires-4
-weight-requires-4 c κs = search needs
 
 add-result-3 : tie.Need-add-result-3
 add-result-3 c =
@@ -62,15 +38,5 @@ pub reasons-for-spec : {M : Type 1} → statement M
 reasons-for-spec =
     tie.close
     (tie.spec
-    cable-at-requires
-    present-requires
-    some-exceeded-requires
-    some-exceeded-requires-2
-    weight-requires
-    weight-requires-2
-    add-result
-    weight-requires-3
-    add-result-2
-    weight-requires-4
-    add-result-3
-    returns)
+    (λ c κs. search needs) (λ c κs. search needs) (λ c κs. search needs) (λ c κs. search needs) (λ c κs. search needs) (λ c κs. search needs)
+    add-result (λ c κs. search needs) add-result-2 (λ c κs. search needs) add-result-3 returns)

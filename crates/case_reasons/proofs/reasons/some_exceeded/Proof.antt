@@ -34,26 +34,11 @@ same c =
 loop-holds : tie.Need-loop-holds Inv-loop μ-loop
 loop-holds c = (omega arith, refl)
 
-mul-b : tie.Need-mul-b Inv-loop μ-loop
-mul-b c = search needs
-
-array-copy-out-b : tie.Need-array-copy-out-b Inv-loop μ-loop
-array-copy-out-b c = search needs
-
-is-exceeded-requires : tie.Need-is-exceeded-requires Inv-loop μ-loop
-is-exceeded-requires c κs = search needs
-
 returns : tie.Need-returns Inv-loop μ-loop
 returns c =
     let l = c .before .before .before .before in
     let a = l .before .args in
     sym (some-found (exceededBy (a .t1) (a .cable) (a .limit) (a .value)) (a .n) (l .loop .i) (c .before .before .before .loop-test .taken) (sym (same (c .before)) ∙ c .if1 .taken))
-
-add-i : tie.Need-add-i Inv-loop μ-loop
-add-i c = search needs
-
-loop-less : tie.Need-loop-less Inv-loop μ-loop
-loop-less c = search needs
 
 loop-again : tie.Need-loop-again Inv-loop μ-loop
 loop-again c =
@@ -70,14 +55,5 @@ pub some-exceeded-spec : {M : Type 1} → statement M
 some-exceeded-spec =
     tie.close
     (tie.spec
-    Inv-loop
-    μ-loop
-    loop-holds
-    mul-b
-    array-copy-out-b
-    is-exceeded-requires
-    returns
-    add-i
-    loop-less
-    loop-again
-    returns-2)
+    Inv-loop μ-loop loop-holds (λ c. search needs) (λ c. search needs) (λ c κs. search needs) returns (λ c. search needs) (λ c. search needs)
+    loop-again returns-2)

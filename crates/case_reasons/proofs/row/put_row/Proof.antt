@@ -12,12 +12,6 @@ use borrow.Author.Needs.{needs}
 use Rattle.case_reasons.proofs.row.put_row.Statement.{statement}
 use Rattle.case_reasons.proofs.row.put_row.Tie as tie
 
-writes-row-requires : tie.Need-writes-row-requires
-writes-row-requires c κs = search needs
-
-row-numbers-requires : tie.Need-row-numbers-requires
-row-numbers-requires c κs = search needs
-
 put-numbers-requires : tie.Need-put-numbers-requires
 put-numbers-requires c κs =
     let i = c .before .before .before in
@@ -40,12 +34,4 @@ returns-2 : tie.Need-returns-2
 returns-2 c = let t = rw (c .before .writes-row .ensures) at (c .if1 .left) in (rw t, rw t)
 
 pub put-row-spec : {M : Type 1} → statement M
-put-row-spec =
-    tie.close
-    (tie.spec
-    writes-row-requires
-    row-numbers-requires
-    put-numbers-requires
-    same-length
-    returns
-    returns-2)
+put-row-spec = tie.close (tie.spec (λ c κs. search needs) (λ c κs. search needs) put-numbers-requires same-length returns returns-2)

@@ -23,15 +23,6 @@ detected-steps-requires c κs = c .if1 .taken
 returns : tie.Need-returns Inv-loop μ-loop
 returns c = c .detected-steps .ensures ∙ c .before .before .before .loop .inv
 
-case-step-requires : tie.Need-case-step-requires Inv-loop μ-loop
-case-step-requires c κs = search needs
-
-add-step : tie.Need-add-step Inv-loop μ-loop
-add-step c = search needs
-
-loop-less : tie.Need-loop-less Inv-loop μ-loop
-loop-less c = search needs
-
 loop-again : tie.Need-loop-again Inv-loop μ-loop
 unfolding planCaseFrom
 loop-again c =
@@ -51,4 +42,5 @@ returns-2 c =
 pub case-steps-spec : {M : Type 1} → statement M
 case-steps-spec =
     tie.close
-    (tie.spec Inv-loop μ-loop loop-holds detected-steps-requires returns case-step-requires add-step loop-less loop-again returns-2)
+    (tie.spec
+    Inv-loop μ-loop loop-holds detected-steps-requires returns (λ c κs. search needs) (λ c. search needs) (λ c. search needs) loop-again returns-2)

@@ -24,18 +24,6 @@ abbrev μ-loop : tie.MeasureT-loop
 loop-holds : tie.Need-loop-holds Inv-loop μ-loop
 loop-holds c = refl
 
-fault-step-requires : tie.Need-fault-step-requires Inv-loop μ-loop
-fault-step-requires c κs = search needs
-
-clearing-current-requires : tie.Need-clearing-current-requires Inv-loop μ-loop
-clearing-current-requires c κs = search needs
-
-add-step : tie.Need-add-step Inv-loop μ-loop
-add-step c = search needs
-
-loop-less : tie.Need-loop-less Inv-loop μ-loop
-loop-less c = search needs
-
 loop-again : tie.Need-loop-again Inv-loop μ-loop
 unfolding planCaseFrom planCaseStep
 loop-again c =
@@ -60,12 +48,4 @@ pub detected-steps-spec : {M : Type 1} → statement M
 detected-steps-spec =
     tie.close
     (tie.spec
-    Inv-loop
-    μ-loop
-    loop-holds
-    fault-step-requires
-    clearing-current-requires
-    add-step
-    loop-less
-    loop-again
-    returns)
+    Inv-loop μ-loop loop-holds (λ c κs. search needs) (λ c κs. search needs) (λ c. search needs) (λ c. search needs) loop-again returns)

@@ -15,9 +15,6 @@ returns-2 c =
     let a = i .before .args in
     rw (i .if1 .left) (sym (skipped (a .step) (a .c .variables .«fault_cleared») (planShows (a .plan) (a .c) (a .after)) (c .if2 .taken)))
 
-detects-requires : tie.Need-detects-requires
-detects-requires c κs = search needs
-
 returns-3 : tie.Need-returns-3
 returns-3 c =
     let t = c .before .before .before .before .before .before in
@@ -26,4 +23,4 @@ returns-3 c =
     rw (i .if1 .left) (c .detects .ensures ∙ sym (looked-at (a .step) (a .c .variables .«fault_cleared») (planShows (a .plan) (a .c) (a .after)) (t .if2 .left)))
 
 pub is-detected-spec : {M : Type 1} → statement M
-is-detected-spec = tie.close (tie.spec returns returns-2 detects-requires returns-3)
+is-detected-spec = tie.close (tie.spec returns returns-2 (λ c κs. search needs) returns-3)

@@ -17,18 +17,9 @@ Inv-loop common cable sites₀ tenth₀ sites tenth = (tenth ≤ 11) × (sites �
 abbrev μ-loop : tie.MeasureT-loop
 μ-loop common cable sites₀ tenth₀ sites tenth = 11 - tenth
 
-blank-site-requires : tie.Need-blank-site-requires Inv-loop μ-loop
-blank-site-requires c κs = search needs
-
 loop-holds : tie.Need-loop-holds Inv-loop μ-loop
 unfolding blank
 loop-holds c = (omega arith, rw (c .blank-site .ensures) (upto-none _ _))
-
-site-at-requires : tie.Need-site-at-requires Inv-loop μ-loop
-site-at-requires c κs = search needs
-
-mul-sites : tie.Need-mul-sites Inv-loop μ-loop
-mul-sites c = search needs
 
 array-set-from-sites : tie.Need-array-set-from-sites Inv-loop μ-loop
 array-set-from-sites c = omega (arith, c .before .loop-test .taken)
@@ -53,14 +44,5 @@ pub cable-ends-spec : {M : Type 1} → statement M
 cable-ends-spec =
     tie.close
     (tie.spec
-    Inv-loop
-    μ-loop
-    blank-site-requires
-    loop-holds
-    site-at-requires
-    mul-sites
-    array-set-from-sites
-    add-tenth
-    loop-less
-    loop-again
+    Inv-loop μ-loop (λ c κs. search needs) loop-holds (λ c κs. search needs) (λ c. search needs) array-set-from-sites add-tenth loop-less loop-again
     returns)

@@ -5,9 +5,6 @@ use Rattle.fault_cases.proofs.Numbers.{tenths-few}
 use Rattle.closed_cases.proofs.cable.closes_cable.Statement.{statement}
 use Rattle.closed_cases.proofs.cable.closes_cable.Tie as tie
 
-tenth-count-requires : tie.Need-tenth-count-requires
-tenth-count-requires c κs = search needs
-
 mul-cases : tie.Need-mul-cases
 mul-cases c = let o = c .before .args .order in omega (arith, c .tenth-count .ensures, tenths-few o .1)
 
@@ -18,4 +15,4 @@ returns : tie.Need-returns
 returns c = rw (c .before .before .before .tenth-count .ensures)
 
 pub closes-cable-spec : {M : Type 1} → statement M
-closes-cable-spec = tie.close (tie.spec tenth-count-requires mul-cases div-result returns)
+closes-cable-spec = tie.close (tie.spec (λ c κs. search needs) mul-cases div-result returns)

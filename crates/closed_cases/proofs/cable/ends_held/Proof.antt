@@ -4,15 +4,6 @@ use Rattle.closed_cases.proofs.AllSteps.{holds, holds-on}
 use Rattle.closed_cases.proofs.cable.ends_held.Statement.{statement}
 use Rattle.closed_cases.proofs.cable.ends_held.Tie as tie
 
-case-place-requires : tie.Need-case-place-requires
-case-place-requires c κs = search needs
-
-closes-cable-requires : tie.Need-closes-cable-requires
-closes-cable-requires c κs = search needs
-
-cable-ends-requires : tie.Need-cable-ends-requires
-cable-ends-requires c κs = search needs
-
 returns : tie.Need-returns
 returns c =
     let i = c .before in
@@ -25,6 +16,4 @@ returns-2 c =
     holds-on (t .before .before .before .args .common) (t .before .before .before .args .before) _ _ _ _ (t .before .case-place .ensures) _ (t .closes-cable .ensures) (c .if1 .left)
 
 pub ends-held-spec : {M : Type 1} → statement M
-ends-held-spec =
-    tie.close
-    (tie.spec case-place-requires closes-cable-requires cable-ends-requires returns returns-2)
+ends-held-spec = tie.close (tie.spec (λ c κs. search needs) (λ c κs. search needs) (λ c κs. search needs) returns returns-2)

@@ -23,20 +23,11 @@ few c =
 long : (c : tie.Start) → length (c .args .ends .sites) ≡ 11
 long c = search (needs, unmapped)
 
-case-place-requires : tie.Need-case-place-requires
-case-place-requires c κs = search needs
-
-is-tried-requires : tie.Need-is-tried-requires
-is-tried-requires c κs = search needs
-
 mul-site : tie.Need-mul-site
 mul-site c = omega (arith, few c)
 
 array-copy-out-site : tie.Need-array-copy-out-site
 array-copy-out-site c = omega (arith, few c)
-
-in-site-requires : tie.Need-in-site-requires
-in-site-requires c κs = search needs
 
 returns : tie.Need-returns
 returns c =
@@ -51,9 +42,6 @@ returns c =
     (c .in-site .ensures
     ∙ ap (λ (y : SiteEnds). inSite y (place .«fault_type»)) (getD-within (a .ends .sites) (place .tenth) _ blankSite (omega (arith, few s, long start))))
 
-end-for-requires : tie.Need-end-for-requires
-end-for-requires c κs = search needs
-
 returns-2 : tie.Need-returns-2
 returns-2 c =
     let i = c .before in
@@ -66,11 +54,4 @@ pub closed-outcome-spec : {M : Type 1} → statement M
 closed-outcome-spec =
     tie.close
     (tie.spec
-    case-place-requires
-    is-tried-requires
-    mul-site
-    array-copy-out-site
-    in-site-requires
-    returns
-    end-for-requires
-    returns-2)
+    (λ c κs. search needs) (λ c κs. search needs) mul-site array-copy-out-site (λ c κs. search needs) returns (λ c κs. search needs) returns-2)

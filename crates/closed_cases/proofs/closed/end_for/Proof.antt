@@ -3,19 +3,10 @@ use borrow.Author.Needs.{needs}
 use Rattle.closed_cases.proofs.closed.end_for.Statement.{statement}
 use Rattle.closed_cases.proofs.closed.end_for.Tie as tie
 
-plan-at-requires : tie.Need-plan-at-requires
-plan-at-requires c κs = search needs
-
-window-in-requires : tie.Need-window-in-requires
-window-in-requires c κs = search needs
-
-case-end-requires : tie.Need-case-end-requires
-case-end-requires c κs = search needs
-
 returns : tie.Need-returns
 returns c =
     let w = c .before in
     rw (c .case-end .ensures, w .window-in .ensures, w .before .before .before .before .plan-at .ensures)
 
 pub end-for-spec : {M : Type 1} → statement M
-end-for-spec = tie.close (tie.spec plan-at-requires window-in-requires case-end-requires returns)
+end-for-spec = tie.close (tie.spec (λ c κs. search needs) (λ c κs. search needs) (λ c κs. search needs) returns)

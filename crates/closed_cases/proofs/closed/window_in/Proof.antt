@@ -6,11 +6,8 @@ use Rattle.closed_cases.proofs.closed.window_in.Tie as tie
 returns : tie.Need-returns
 returns c = rw (c .if1 .taken)
 
-fault-window-requires : tie.Need-fault-window-requires
-fault-window-requires c κs = search needs
-
 returns-2 : tie.Need-returns-2
 returns-2 c = rw (c .before .before .if1 .left) (c .fault-window .ensures)
 
 pub window-in-spec : {M : Type 1} → statement M
-window-in-spec = tie.close (tie.spec returns fault-window-requires returns-2)
+window-in-spec = tie.close (tie.spec returns (λ c κs. search needs) returns-2)

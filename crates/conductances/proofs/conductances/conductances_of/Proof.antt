@@ -12,12 +12,6 @@ use Rattle.conductances.proofs.conductances.conductances_of.Tie as tie
 long : (c : tie.Start) → length (c .args .g .cables) ≡ 64
 long c = search (needs, unmapped)
 
-present-requires : tie.Need-present-requires
-present-requires c κs = search needs
-
-present-requires-2 : tie.Need-present-requires-2
-present-requires-2 c κs = search needs
-
 conductances-requires : tie.Need-conductances-requires
 unfolding blank
 conductances-requires c κs =
@@ -31,10 +25,4 @@ returns c =
     c .conductances .ensures ∙ of-grid (s .args .g) (long s) (k .before .present .ensures) (k .present2 .ensures)
 
 pub conductances-of-spec : {M : Type 1} → statement M
-conductances-of-spec =
-    tie.close
-    (tie.spec
-    present-requires
-    present-requires-2
-    conductances-requires
-    returns)
+conductances-of-spec = tie.close (tie.spec (λ c κs. search needs) (λ c κs. search needs) conductances-requires returns)

@@ -6,12 +6,6 @@ use borrow.Author.Needs.{needs}
 use Rattle.conductances.proofs.conductances.connect.Statement.{statement}
 use Rattle.conductances.proofs.conductances.connect.Tie as tie
 
-cable-resistance-requires : tie.Need-cable-resistance-requires
-cable-resistance-requires c κs = search needs
-
-store-requires : tie.Need-store-requires
-store-requires c κs = search needs
-
 returns : tie.Need-returns
 returns c =
     let s = c .before .before .before .before .before in
@@ -28,5 +22,4 @@ returns-3 c =
     rw (le-ltb (a .c .«from_station») (a .n) (c .if1 .left)) (skips-entries (a .m .now))
 
 pub connect-spec : {M : Type 1} → statement M
-connect-spec =
-    tie.close (tie.spec cable-resistance-requires store-requires returns returns-2 returns-3)
+connect-spec = tie.close (tie.spec (λ c κs. search needs) (λ c κs. search needs) returns returns-2 returns-3)

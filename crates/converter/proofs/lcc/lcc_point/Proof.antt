@@ -5,23 +5,11 @@ use borrow.Author.Needs.{needs}
 use Rattle.converter.proofs.lcc.lcc_point.Statement.{statement}
 use Rattle.converter.proofs.lcc.lcc_point.Tie as tie
 
-to-radians-requires : tie.Need-to-radians-requires
-to-radians-requires c κs = search needs
-
-cos-requires : tie.Need-cos-requires
-cos-requires c κs = search needs
-
-base-impedance-requires : tie.Need-base-impedance-requires
-base-impedance-requires c κs = search needs
-
 voltage-requires : tie.Need-voltage-requires
 voltage-requires c κs = (c .before .cos .ensures ∙ rw (c .before .before .to-radians .ensures), c .base-impedance .ensures)
 
 power-factor-requires : tie.Need-power-factor-requires
 power-factor-requires c κs = c .before .before .cos .ensures ∙ rw (c .before .before .before .to-radians .ensures)
-
-losses-requires : tie.Need-losses-requires
-losses-requires c κs = search needs
 
 returns : tie.Need-returns
 unfolding lccPoint
@@ -31,10 +19,4 @@ pub lcc-point-spec : {M : Type 1} → statement M
 lcc-point-spec =
     tie.close
     (tie.spec
-    to-radians-requires
-    cos-requires
-    base-impedance-requires
-    voltage-requires
-    power-factor-requires
-    losses-requires
-    returns)
+    (λ c κs. search needs) (λ c κs. search needs) (λ c κs. search needs) voltage-requires power-factor-requires (λ c κs. search needs) returns)

@@ -4,11 +4,8 @@ use borrow.Author.Needs.{needs}
 use Rattle.converter.proofs.lcc.losses.Statement.{statement}
 use Rattle.converter.proofs.lcc.losses.Tie as tie
 
-abs-requires : tie.Need-abs-requires
-abs-requires c κs = search needs
-
 returns : tie.Need-returns
 returns c = c .abs .ensures ∙ rw (c .before .before .pre)
 
 pub losses-spec : {M : Type 1} → statement M
-losses-spec = tie.close (tie.spec abs-requires returns)
+losses-spec = tie.close (tie.spec (λ c κs. search needs) returns)

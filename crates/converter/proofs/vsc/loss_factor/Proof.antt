@@ -5,27 +5,6 @@ use borrow.Author.Needs.{needs}
 use Rattle.converter.proofs.vsc.loss_factor.Statement.{statement}
 use Rattle.converter.proofs.vsc.loss_factor.Tie as tie
 
-enum-told : tie.Need-enum-told
-enum-told c = search needs
-
-enum-told-2 : tie.Need-enum-told-2
-enum-told-2 c = search needs
-
-enum-known-topology : tie.Need-enum-known-topology
-enum-known-topology c = search needs
-
-counted-submodules-requires : tie.Need-counted-submodules-requires
-counted-submodules-requires c κs = search needs
-
-nearest-u64-to-f64-requires : tie.Need-nearest-u64-to-f64-requires
-nearest-u64-to-f64-requires c κs = search needs
-
-sqrt-requires : tie.Need-sqrt-requires
-sqrt-requires c κs = search needs
-
-enum-told-3 : tie.Need-enum-told-3
-enum-told-3 c = search needs
-
 returns : tie.Need-returns
 unfolding lossFactor
 returns c = ap lossFactor (sym (c .enum-told .given .1))
@@ -46,14 +25,5 @@ pub loss-factor-spec : {M : Type 1} → statement M
 loss-factor-spec =
     tie.close
     (tie.spec
-    enum-told
-    enum-told-2
-    enum-known-topology
-    counted-submodules-requires
-    nearest-u64-to-f64-requires
-    sqrt-requires
-    enum-told-3
-    returns
-    returns-2
-    returns-3
-    returns-4)
+    (λ c. search needs) (λ c. search needs) (λ c. search needs) (λ c κs. search needs) (λ c κs. search needs) (λ c κs. search needs)
+    (λ c. search needs) returns returns-2 returns-3 returns-4)

@@ -6,9 +6,6 @@ use borrow.Author.Needs.{needs}
 use Rattle.converter.proofs.vsc.modulation.Statement.{statement}
 use Rattle.converter.proofs.vsc.modulation.Tie as tie
 
-clamp-requires : tie.Need-clamp-requires
-clamp-requires c κs = search needs
-
 returns : tie.Need-returns
 unfolding modulation
 returns c = c .clamp .ensures ∙ rw (root-is, c .before .if1 .taken)
@@ -18,4 +15,4 @@ unfolding modulation
 returns-2 c = rw (root-is, c .if1 .left)
 
 pub modulation-spec : {M : Type 1} → statement M
-modulation-spec = tie.close (tie.spec clamp-requires returns returns-2)
+modulation-spec = tie.close (tie.spec (λ c κs. search needs) returns returns-2)

@@ -9,18 +9,6 @@ use borrow.Author.Needs.{needs}
 use Rattle.detection.proofs.detect.detect_fault.Statement.{statement}
 use Rattle.detection.proofs.detect.detect_fault.Tie as tie
 
-check-detection-requires : tie.Need-check-detection-requires
-check-detection-requires c κs = search needs
-
-number-requires : tie.Need-number-requires
-number-requires c κs = search needs
-
-rated-voltages-requires : tie.Need-rated-voltages-requires
-rated-voltages-requires c κs = search needs
-
-detects-requires : tie.Need-detects-requires
-detects-requires c κs = search needs
-
 returns : tie.Need-returns
 unfolding detection
 returns c =
@@ -42,12 +30,4 @@ returns-2 c =
     )
 
 pub detect-fault-spec : {M : Type 1} → statement M
-detect-fault-spec =
-    tie.close
-    (tie.spec
-    check-detection-requires
-    number-requires
-    rated-voltages-requires
-    detects-requires
-    returns
-    returns-2)
+detect-fault-spec = tie.close (tie.spec (λ c κs. search needs) (λ c κs. search needs) (λ c κs. search needs) (λ c κs. search needs) returns returns-2)

@@ -3,11 +3,8 @@ use borrow.Author.Needs.{needs}
 use Rattle.detection.proofs.detect.is_fast.Statement.{statement}
 use Rattle.detection.proofs.detect.is_fast.Tie as tie
 
-abs-requires : tie.Need-abs-requires
-abs-requires c κs = search needs
-
 returns : tie.Need-returns
 returns c = rw (c .abs .ensures)
 
 pub is-fast-spec : {M : Type 1} → statement M
-is-fast-spec = tie.close (tie.spec abs-requires returns)
+is-fast-spec = tie.close (tie.spec (λ c κs. search needs) returns)

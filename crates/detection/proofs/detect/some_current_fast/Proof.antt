@@ -20,38 +20,11 @@ abbrev μ-loop : tie.MeasureT-loop
 loop-holds : tie.Need-loop-holds Inv-loop μ-loop
 loop-holds c = (omega arith, refl)
 
-add-is-fast : tie.Need-add-is-fast Inv-loop μ-loop
-add-is-fast c = search needs
-
-mul-is-fast : tie.Need-mul-is-fast Inv-loop μ-loop
-mul-is-fast c = search needs
-
-element-copy-out-is-fast : tie.Need-element-copy-out-is-fast Inv-loop μ-loop
-element-copy-out-is-fast c = search needs
-
-add-is-fast-2 : tie.Need-add-is-fast-2 Inv-loop μ-loop
-add-is-fast-2 c = search needs
-
-mul-is-fast-2 : tie.Need-mul-is-fast-2 Inv-loop μ-loop
-mul-is-fast-2 c = search needs
-
-element-copy-out-is-fast-2 : tie.Need-element-copy-out-is-fast-2 Inv-loop μ-loop
-element-copy-out-is-fast-2 c = search needs
-
-is-fast-requires : tie.Need-is-fast-requires Inv-loop μ-loop
-is-fast-requires c κs = search needs
-
 returns : tie.Need-returns Inv-loop μ-loop
 returns c =
     let l = c .before .before .before .before .before in
     let a = l .before .args in
     sym (some-found (fastCable (a .«n-stations») (a .«dt-ms») (a .y .now) (a .before .now)) (a .«n-cables») (l .loop .k) (c .before .before .before .before .loop-test .taken) (sym (c .before .is-fast .ensures) ∙ c .if1 .taken))
-
-add-k : tie.Need-add-k Inv-loop μ-loop
-add-k c = search needs
-
-loop-less : tie.Need-loop-less Inv-loop μ-loop
-loop-less c = search needs
 
 loop-again : tie.Need-loop-again Inv-loop μ-loop
 loop-again c =
@@ -68,18 +41,5 @@ pub some-current-fast-spec : {M : Type 1} → statement M
 some-current-fast-spec =
     tie.close
     (tie.spec
-    Inv-loop
-    μ-loop
-    loop-holds
-    add-is-fast
-    mul-is-fast
-    element-copy-out-is-fast
-    add-is-fast-2
-    mul-is-fast-2
-    element-copy-out-is-fast-2
-    is-fast-requires
-    returns
-    add-k
-    loop-less
-    loop-again
-    returns-2)
+    Inv-loop μ-loop loop-holds (λ c. search needs) (λ c. search needs) (λ c. search needs) (λ c. search needs) (λ c. search needs) (λ c. search needs)
+    (λ c κs. search needs) returns (λ c. search needs) (λ c. search needs) loop-again returns-2)

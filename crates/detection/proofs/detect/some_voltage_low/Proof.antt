@@ -21,32 +21,11 @@ abbrev μ-loop : tie.MeasureT-loop
 loop-holds : tie.Need-loop-holds Inv-loop μ-loop
 loop-holds c = (omega arith, refl)
 
-mul-is-low : tie.Need-mul-is-low Inv-loop μ-loop
-mul-is-low c = search needs
-
-element-copy-out-is-low : tie.Need-element-copy-out-is-low Inv-loop μ-loop
-element-copy-out-is-low c = search needs
-
-mul-is-low-2 : tie.Need-mul-is-low-2 Inv-loop μ-loop
-mul-is-low-2 c = search needs
-
-element-copy-out-is-low-2 : tie.Need-element-copy-out-is-low-2 Inv-loop μ-loop
-element-copy-out-is-low-2 c = search needs
-
-is-low-requires : tie.Need-is-low-requires Inv-loop μ-loop
-is-low-requires c κs = search needs
-
 returns : tie.Need-returns Inv-loop μ-loop
 returns c =
     let l = c .before .before .before .before .before in
     let a = l .before .args in
     sym (some-found (λ k. low (of (a .y .now) k) (of (a .«rated-kv» .now) k)) (a .«n-stations») (l .loop .i) (c .before .before .before .before .loop-test .taken) (sym (c .before .is-low .ensures) ∙ c .if1 .taken))
-
-add-i : tie.Need-add-i Inv-loop μ-loop
-add-i c = search needs
-
-loop-less : tie.Need-loop-less Inv-loop μ-loop
-loop-less c = search needs
 
 loop-again : tie.Need-loop-again Inv-loop μ-loop
 loop-again c =
@@ -63,16 +42,5 @@ pub some-voltage-low-spec : {M : Type 1} → statement M
 some-voltage-low-spec =
     tie.close
     (tie.spec
-    Inv-loop
-    μ-loop
-    loop-holds
-    mul-is-low
-    element-copy-out-is-low
-    mul-is-low-2
-    element-copy-out-is-low-2
-    is-low-requires
-    returns
-    add-i
-    loop-less
-    loop-again
-    returns-2)
+    Inv-loop μ-loop loop-holds (λ c. search needs) (λ c. search needs) (λ c. search needs) (λ c. search needs) (λ c κs. search needs) returns
+    (λ c. search needs) (λ c. search needs) loop-again returns-2)

@@ -34,23 +34,11 @@ int-to-float-p : tie.Need-int-to-float-p Inv-loop μ-loop Inv-loop2 μ-loop2
 unfolding inFloat
 int-to-float-p c = let h : c .before .before .loop .k ≤ 2 ^ 53 = omega arith in le→leb _ _ h
 
-sub-k : tie.Need-sub-k Inv-loop μ-loop Inv-loop2 μ-loop2
-sub-k c = search needs
-
-loop-less : tie.Need-loop-less Inv-loop μ-loop Inv-loop2 μ-loop2
-loop-less c = search needs
-
 loop-again : tie.Need-loop-again Inv-loop μ-loop Inv-loop2 μ-loop2
 loop-again c = (omega arith, terms-more _ _ _ (c .before .loop-test .taken) ∙ c .before .before .loop .inv .1)
 
 loop2-holds : tie.Need-loop2-holds Inv-loop μ-loop Inv-loop2 μ-loop2
 loop2-holds c = refl
-
-sub-j : tie.Need-sub-j Inv-loop μ-loop Inv-loop2 μ-loop2
-sub-j c = search needs
-
-loop2-less : tie.Need-loop2-less Inv-loop μ-loop Inv-loop2 μ-loop2
-loop2-less c = search needs
 
 loop2-again : tie.Need-loop2-again Inv-loop μ-loop Inv-loop2 μ-loop2
 loop2-again c = squared-more _ _ (c .loop2-test .taken) ∙ c .before .loop2 .inv
@@ -66,18 +54,5 @@ pub exp-spec : {M : Type 1} → statement M
 exp-spec =
     tie.close
     (tie.spec
-    Inv-loop
-    μ-loop
-    Inv-loop2
-    μ-loop2
-    returns
-    loop-holds
-    int-to-float-p
-    sub-k
-    loop-less
-    loop-again
-    loop2-holds
-    sub-j
-    loop2-less
-    loop2-again
-    returns-2)
+    Inv-loop μ-loop Inv-loop2 μ-loop2 returns loop-holds int-to-float-p (λ c. search needs) (λ c. search needs) loop-again loop2-holds
+    (λ c. search needs) (λ c. search needs) loop2-again returns-2)

@@ -6,9 +6,6 @@ use Rattle.elementary.proofs.Reduced.{cosine-divisor}
 use Rattle.elementary.proofs.wave.cos.Statement.{statement}
 use Rattle.elementary.proofs.wave.cos.Tie as tie
 
-series-of-requires : tie.Need-series-of-requires
-series-of-requires c κs = search needs
-
 clamp-requires : tie.Need-clamp-requires
 clamp-requires c κs = tt
 
@@ -17,4 +14,4 @@ unfolding C
 returns c = c .clamp .ensures ∙ rw (c .before .series-of .ensures, cosine-divisor)
 
 pub cos-spec : {M : Type 1} → statement M
-cos-spec = tie.close (tie.spec series-of-requires clamp-requires returns)
+cos-spec = tie.close (tie.spec (λ c κs. search needs) clamp-requires returns)

@@ -21,27 +21,12 @@ abbrev μ-loop : tie.MeasureT-loop
 loop-holds : tie.Need-loop-holds Inv-loop μ-loop
 loop-holds c = (search needs, refl)
 
-mul-d : tie.Need-mul-d Inv-loop μ-loop
-mul-d c = search needs
-
-add-d : tie.Need-add-d Inv-loop μ-loop
-add-d c = search needs
-
-sub-q : tie.Need-sub-q Inv-loop μ-loop
-sub-q c = search needs
-
 mul-q : tie.Need-mul-q Inv-loop μ-loop
 mul-q c = omega (arith, divisor-small (2 * c .before .loop .k + c .before .before .args .odd) (omega arith))
 
 int-to-float-q : tie.Need-int-to-float-q Inv-loop μ-loop
 unfolding inFloat
 int-to-float-q c = le→leb _ _ (le-trans (divisor-small (2 * c .before .before .loop .k + c .before .before .before .args .odd) (omega arith)) (lit≤ tt))
-
-sub-k : tie.Need-sub-k Inv-loop μ-loop
-sub-k c = search needs
-
-loop-less : tie.Need-loop-less Inv-loop μ-loop
-loop-less c = search needs
 
 loop-again : tie.Need-loop-again Inv-loop μ-loop
 loop-again c = (omega arith, series-more _ _ _ _ (c .before .loop-test .taken) ∙ c .before .before .loop .inv .1)
@@ -53,15 +38,5 @@ pub series-of-spec : {M : Type 1} → statement M
 series-of-spec =
     tie.close
     (tie.spec
-    Inv-loop
-    μ-loop
-    loop-holds
-    mul-d
-    add-d
-    sub-q
-    mul-q
-    int-to-float-q
-    sub-k
-    loop-less
-    loop-again
-    returns)
+    Inv-loop μ-loop loop-holds (λ c. search needs) (λ c. search needs) (λ c. search needs) mul-q int-to-float-q (λ c. search needs)
+    (λ c. search needs) loop-again returns)

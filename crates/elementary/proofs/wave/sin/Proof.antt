@@ -9,9 +9,6 @@ use Rattle.elementary.proofs.wave.sin.Tie as tie
 reduced-angle-requires : tie.Need-reduced-angle-requires
 reduced-angle-requires c κs = tt
 
-series-of-requires : tie.Need-series-of-requires
-series-of-requires c κs = search needs
-
 clamp-requires : tie.Need-clamp-requires
 clamp-requires c κs = tt
 
@@ -20,4 +17,4 @@ unfolding S
 returns c = c .clamp .ensures ∙ rw (c .before .series-of .ensures, sine-divisor, c .before .before .reduced-angle .ensures)
 
 pub sin-spec : {M : Type 1} → statement M
-sin-spec = tie.close (tie.spec reduced-angle-requires series-of-requires clamp-requires returns)
+sin-spec = tie.close (tie.spec reduced-angle-requires (λ c κs. search needs) clamp-requires returns)

@@ -13,12 +13,6 @@ use Rattle.fault_cases.proofs.cases.case_count.Lts as lts
 long : (c : tie.Start) → length (c .args .g .cables) ≡ 64
 long c = search (needs, unmapped)
 
-present-requires : tie.Need-present-requires
-present-requires c κs = search needs
-
-tenth-count-requires : tie.Need-tenth-count-requires
-tenth-count-requires c κs = search needs
-
 mul-result : tie.Need-mul-result
 mul-result c = record { fits = omega (arith, c .tenth-count .ensures, tenths-few (c .before .before .args .o) .1) }
 
@@ -29,5 +23,4 @@ returns : tie.Need-returns
 returns c = rw (c .tenth-count .ensures, length-cut (c .before .before .args .g .cables) (c .before .before .args .g .«n_cables») 64 (c .before .present .result) (long (c .before .before)) (c .before .present .ensures))
 
 pub case-count-spec : {M : Type 1} → statement M
-case-count-spec =
-    tie.close (tie.spec present-requires tenth-count-requires mul-result mul-result-2 returns)
+case-count-spec = tie.close (tie.spec (λ c κs. search needs) (λ c κs. search needs) mul-result mul-result-2 returns)

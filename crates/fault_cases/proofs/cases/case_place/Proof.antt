@@ -7,9 +7,6 @@ use Rattle.fault_cases.proofs.cases.case_place.Tie as tie
 use Rattle.fault_cases.proofs.cases.case_place.Reads as reads
 use Rattle.fault_cases.proofs.cases.case_place.Lts as lts
 
-tenth-count-requires : tie.Need-tenth-count-requires
-tenth-count-requires c κs = search needs
-
 mul-t4 : tie.Need-mul-t4
 mul-t4 c = record { fits = omega (arith, c .tenth-count .ensures, tenths-few (c .before .args .o) .1) }
 
@@ -31,5 +28,4 @@ returns : tie.Need-returns
 returns c = rw (c .before .tenth-count .ensures)
 
 pub case-place-spec : {M : Type 1} → statement M
-case-place-spec =
-    tie.close (tie.spec tenth-count-requires mul-t4 div-t5 div-t6 rem-t8 add-t9 returns)
+case-place-spec = tie.close (tie.spec (λ c κs. search needs) mul-t4 div-t5 div-t6 rem-t8 add-t9 returns)

@@ -6,15 +6,9 @@ use Rattle.fault_cases.proofs.cases.fault_at.Tie as tie
 use Rattle.fault_cases.proofs.cases.fault_at.Reads as reads
 use Rattle.fault_cases.proofs.cases.fault_at.Lts as lts
 
-type-of-requires : tie.Need-type-of-requires
-type-of-requires c κs = search needs
-
-nearest-u64-to-f64-requires : tie.Need-nearest-u64-to-f64-requires
-nearest-u64-to-f64-requires c κs = search needs
-
 returns : tie.Need-returns
 unfolding faultIn
 returns c = rw (c .nearest-u64-to-f64 .ensures, c .before .type-of .ensures)
 
 pub fault-at-spec : {M : Type 1} → statement M
-fault-at-spec = tie.close (tie.spec type-of-requires nearest-u64-to-f64-requires returns)
+fault-at-spec = tie.close (tie.spec (λ c κs. search needs) (λ c κs. search needs) returns)

@@ -3,14 +3,8 @@ use borrow.Author.Needs.{needs}
 use Rattle.fault_circuit.proofs.circuit.decay_tau.Statement.{statement}
 use Rattle.fault_circuit.proofs.circuit.decay_tau.Tie as tie
 
-max-requires : tie.Need-max-requires
-max-requires c κs = search needs
-
-max-requires-2 : tie.Need-max-requires-2
-max-requires-2 c κs = search needs
-
 returns : tie.Need-returns
 returns c = rw (c .max2 .ensures, c .before .max .ensures)
 
 pub decay-tau-spec : {M : Type 1} → statement M
-decay-tau-spec = tie.close (tie.spec max-requires max-requires-2 returns)
+decay-tau-spec = tie.close (tie.spec (λ c κs. search needs) (λ c κs. search needs) returns)

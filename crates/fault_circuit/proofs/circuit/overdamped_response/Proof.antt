@@ -4,15 +4,6 @@ use borrow.Author.Needs.{needs}
 use Rattle.fault_circuit.proofs.circuit.overdamped_response.Statement.{statement}
 use Rattle.fault_circuit.proofs.circuit.overdamped_response.Tie as tie
 
-max-requires : tie.Need-max-requires
-max-requires c κs = search needs
-
-sqrt-requires : tie.Need-sqrt-requires
-sqrt-requires c κs = search needs
-
-abs-requires : tie.Need-abs-requires
-abs-requires c κs = search needs
-
 returns : tie.Need-returns
 unfolding overdampedResponse
 returns c =
@@ -26,4 +17,4 @@ returns-2 c =
     rw (← s .before .max .ensures, ← s .sqrt .ensures, ← c .before .abs .ensures, c .if1 .left)
 
 pub overdamped-response-spec : {M : Type 1} → statement M
-overdamped-response-spec = tie.close (tie.spec max-requires sqrt-requires abs-requires returns returns-2)
+overdamped-response-spec = tie.close (tie.spec (λ c κs. search needs) (λ c κs. search needs) (λ c κs. search needs) returns returns-2)

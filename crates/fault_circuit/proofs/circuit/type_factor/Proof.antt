@@ -5,15 +5,6 @@ use borrow.Author.Needs.{needs}
 use Rattle.fault_circuit.proofs.circuit.type_factor.Statement.{statement}
 use Rattle.fault_circuit.proofs.circuit.type_factor.Tie as tie
 
-enum-told : tie.Need-enum-told
-enum-told c = search needs
-
-enum-told-2 : tie.Need-enum-told-2
-enum-told-2 c = search needs
-
-enum-told-3 : tie.Need-enum-told-3
-enum-told-3 c = search needs
-
 returns : tie.Need-returns
 unfolding typeFactor
 returns c = ap typeFactor (sym (c .enum-told .given .1))
@@ -27,5 +18,4 @@ unfolding typeFactor
 returns-3 c = ap typeFactor (sym (c .enum-told3 .given .1))
 
 pub type-factor-spec : {M : Type 1} → statement M
-type-factor-spec =
-    tie.close (tie.spec enum-told enum-told-2 enum-told-3 returns returns-2 returns-3)
+type-factor-spec = tie.close (tie.spec (λ c. search needs) (λ c. search needs) (λ c. search needs) returns returns-2 returns-3)

@@ -4,12 +4,6 @@ use borrow.Author.Needs.{needs}
 use Rattle.fault_circuit.proofs.circuit.underdamped_response.Statement.{statement}
 use Rattle.fault_circuit.proofs.circuit.underdamped_response.Tie as tie
 
-max-requires : tie.Need-max-requires
-max-requires c κs = search needs
-
-sqrt-requires : tie.Need-sqrt-requires
-sqrt-requires c κs = search needs
-
 returns : tie.Need-returns
 unfolding underdampedResponse
 returns c = rw (← c .before .before .max .ensures, ← c .before .sqrt .ensures, c .if1 .taken)
@@ -19,4 +13,4 @@ unfolding underdampedResponse
 returns-2 c = rw (← c .before .before .max .ensures, ← c .before .sqrt .ensures, c .if1 .left)
 
 pub underdamped-response-spec : {M : Type 1} → statement M
-underdamped-response-spec = tie.close (tie.spec max-requires sqrt-requires returns returns-2)
+underdamped-response-spec = tie.close (tie.spec (λ c κs. search needs) (λ c κs. search needs) returns returns-2)

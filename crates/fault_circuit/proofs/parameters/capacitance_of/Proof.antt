@@ -27,18 +27,6 @@ long c = search (needs, unmapped)
 loop-holds : tie.Need-loop-holds Inv-loop μ-loop
 loop-holds c = (omega arith, refl)
 
-mul-s : tie.Need-mul-s Inv-loop μ-loop
-mul-s c = search needs
-
-array-copy-out-s : tie.Need-array-copy-out-s Inv-loop μ-loop
-array-copy-out-s c = search needs
-
-add-i : tie.Need-add-i Inv-loop μ-loop
-add-i c = search needs
-
-loop-less : tie.Need-loop-less Inv-loop μ-loop
-loop-less c = search needs
-
 loop-again : tie.Need-loop-again Inv-loop μ-loop
 loop-again c =
     let l = c .before .before .before in
@@ -50,6 +38,4 @@ returns : tie.Need-returns Inv-loop μ-loop
 returns c = at-end (sumOf (λ k. getD (c .before .before .args .t1) k blankStation .«sm_capacitance_uf»)) (c .before .loop .inv .0) (c .loop-test .left) (c .before .loop .inv .1)
 
 pub capacitance-of-spec : {M : Type 1} → statement M
-capacitance-of-spec =
-    tie.close
-    (tie.spec Inv-loop μ-loop loop-holds mul-s array-copy-out-s add-i loop-less loop-again returns)
+capacitance-of-spec = tie.close (tie.spec Inv-loop μ-loop loop-holds (λ c. search needs) (λ c. search needs) (λ c. search needs) (λ c. search needs) loop-again returns)

@@ -29,36 +29,6 @@ picked g f d e l m =
     (let c = getD (g .cables) (cut (min (g .«n_cables») 64) (f .«location_cable_id»)) blankCable in
     rw (getD-within (g .stations) (cut (min (g .«n_stations») 32) (c .«from_station»)) e blankStation (omega arith)))
 
-present-requires : tie.Need-present-requires
-present-requires c κs = search needs
-
-present-requires-2 : tie.Need-present-requires-2
-present-requires-2 c κs = search needs
-
-cut-end-requires : tie.Need-cut-end-requires
-cut-end-requires c κs = search needs
-
-mul-cable : tie.Need-mul-cable
-mul-cable c = search needs
-
-array-copy-out-cable : tie.Need-array-copy-out-cable
-array-copy-out-cable c = search needs
-
-cut-end-requires-2 : tie.Need-cut-end-requires-2
-cut-end-requires-2 c κs = search needs
-
-mul-station : tie.Need-mul-station
-mul-station c = search needs
-
-array-copy-out-station : tie.Need-array-copy-out-station
-array-copy-out-station c = search needs
-
-capacitance-of-requires : tie.Need-capacitance-of-requires
-capacitance-of-requires c κs = search needs
-
-parameters-at-requires : tie.Need-parameters-at-requires
-parameters-at-requires c κs = search needs
-
 returns : tie.Need-returns
 returns c =
     let q = c .before in
@@ -71,14 +41,5 @@ pub fault-rlc-params-spec : {M : Type 1} → statement M
 fault-rlc-params-spec =
     tie.close
     (tie.spec
-    present-requires
-    present-requires-2
-    cut-end-requires
-    mul-cable
-    array-copy-out-cable
-    cut-end-requires-2
-    mul-station
-    array-copy-out-station
-    capacitance-of-requires
-    parameters-at-requires
-    returns)
+    (λ c κs. search needs) (λ c κs. search needs) (λ c κs. search needs) (λ c. search needs) (λ c. search needs) (λ c κs. search needs)
+    (λ c. search needs) (λ c. search needs) (λ c κs. search needs) (λ c κs. search needs) returns)

@@ -4,15 +4,6 @@ use borrow.Author.Needs.{needs}
 use Rattle.fault_circuit.proofs.parameters.parameters_at.Statement.{statement}
 use Rattle.fault_circuit.proofs.parameters.parameters_at.Tie as tie
 
-clamp-requires : tie.Need-clamp-requires
-clamp-requires c κs = search needs
-
-max-requires : tie.Need-max-requires
-max-requires c κs = search needs
-
-max-requires-2 : tie.Need-max-requires-2
-max-requires-2 c κs = search needs
-
 returns : tie.Need-returns
 unfolding parametersAt
 returns c =
@@ -20,4 +11,4 @@ returns c =
     rw (c .max2 .ensures, m .max .ensures, m .before .before .before .before .before .clamp .ensures)
 
 pub parameters-at-spec : {M : Type 1} → statement M
-parameters-at-spec = tie.close (tie.spec clamp-requires max-requires max-requires-2 returns)
+parameters-at-spec = tie.close (tie.spec (λ c κs. search needs) (λ c κs. search needs) (λ c κs. search needs) returns)

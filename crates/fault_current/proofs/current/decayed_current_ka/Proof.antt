@@ -4,12 +4,6 @@ use borrow.Author.Needs.{needs}
 use Rattle.fault_current.proofs.current.decayed_current_ka.Statement.{statement}
 use Rattle.fault_current.proofs.current.decayed_current_ka.Tie as tie
 
-seconds-since-requires : tie.Need-seconds-since-requires
-seconds-since-requires c κs = search needs
-
-exp-requires : tie.Need-exp-requires
-exp-requires c κs = search needs
-
 returns : tie.Need-returns
 unfolding decayedBy
 returns c = rw (← c .before .before .before .seconds-since .ensures, ← c .before .exp .ensures, c .if1 .taken)
@@ -19,5 +13,4 @@ unfolding decayedBy
 returns-2 c = rw (← c .before .before .before .seconds-since .ensures, ← c .before .exp .ensures, c .if1 .left)
 
 pub decayed-current-ka-spec : {M : Type 1} → statement M
-decayed-current-ka-spec =
-    tie.close (tie.spec seconds-since-requires exp-requires returns returns-2)
+decayed-current-ka-spec = tie.close (tie.spec (λ c κs. search needs) (λ c κs. search needs) returns returns-2)

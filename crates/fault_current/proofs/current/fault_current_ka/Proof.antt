@@ -4,15 +4,6 @@ use borrow.Author.Needs.{needs}
 use Rattle.fault_current.proofs.current.fault_current_ka.Statement.{statement}
 use Rattle.fault_current.proofs.current.fault_current_ka.Tie as tie
 
-seconds-since-requires : tie.Need-seconds-since-requires
-seconds-since-requires c κs = search needs
-
-amperes-requires : tie.Need-amperes-requires
-amperes-requires c κs = search needs
-
-abs-requires : tie.Need-abs-requires
-abs-requires c κs = search needs
-
 returns : tie.Need-returns
 unfolding currentBy
 returns c =
@@ -20,5 +11,4 @@ returns c =
     rw (b .abs .ensures, b .before .amperes .ensures, b .before .before .seconds-since .ensures)
 
 pub fault-current-ka-spec : {M : Type 1} → statement M
-fault-current-ka-spec =
-    tie.close (tie.spec seconds-since-requires amperes-requires abs-requires returns)
+fault-current-ka-spec = tie.close (tie.spec (λ c κs. search needs) (λ c κs. search needs) (λ c κs. search needs) returns)

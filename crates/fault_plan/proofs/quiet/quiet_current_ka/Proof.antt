@@ -3,9 +3,6 @@ use borrow.Author.Needs.{needs}
 use Rattle.fault_plan.proofs.quiet.quiet_current_ka.Statement.{statement}
 use Rattle.fault_plan.proofs.quiet.quiet_current_ka.Tie as tie
 
-decayed-current-ka-requires : tie.Need-decayed-current-ka-requires
-decayed-current-ka-requires c κs = search needs
-
 returns : tie.Need-returns
 returns c = rw (c .before .if1 .taken, c .decayed-current-ka .ensures)
 
@@ -13,4 +10,4 @@ returns-2 : tie.Need-returns-2
 returns-2 c = rw (c .before .if1 .left)
 
 pub quiet-current-ka-spec : {M : Type 1} → statement M
-quiet-current-ka-spec = tie.close (tie.spec decayed-current-ka-requires returns returns-2)
+quiet-current-ka-spec = tie.close (tie.spec (λ c κs. search needs) returns returns-2)

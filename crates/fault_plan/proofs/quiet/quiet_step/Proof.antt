@@ -4,12 +4,6 @@ use borrow.Author.Needs.{needs}
 use Rattle.fault_plan.proofs.quiet.quiet_step.Statement.{statement}
 use Rattle.fault_plan.proofs.quiet.quiet_step.Tie as tie
 
-step-time-ms-requires : tie.Need-step-time-ms-requires
-step-time-ms-requires c κs = search needs
-
-quiet-current-ka-requires : tie.Need-quiet-current-ka-requires
-quiet-current-ka-requires c κs = search needs
-
 returns : tie.Need-returns
 unfolding quietStep
 returns c =
@@ -17,4 +11,4 @@ returns c =
     rw (q .quiet-current-ka .ensures, q .before .before .step-time-ms .ensures)
 
 pub quiet-step-spec : {M : Type 1} → statement M
-quiet-step-spec = tie.close (tie.spec step-time-ms-requires quiet-current-ka-requires returns)
+quiet-step-spec = tie.close (tie.spec (λ c κs. search needs) (λ c κs. search needs) returns)

@@ -4,12 +4,6 @@ use borrow.Author.Needs.{needs}
 use Rattle.fault_plan.proofs.quiet.rests.Statement.{statement}
 use Rattle.fault_plan.proofs.quiet.rests.Tie as tie
 
-all-recovered-requires : tie.Need-all-recovered-requires
-all-recovered-requires c κs = search needs
-
-none-below-requires : tie.Need-none-below-requires
-none-below-requires c κs = search needs
-
 returns : tie.Need-returns
 unfolding restsBy
 returns c =
@@ -22,6 +16,4 @@ unfolding restsBy
 returns-2 c = rw (c .if1 .left)
 
 pub rests-spec : {M : Type 1} → statement M
-rests-spec =
-    tie.close
-    (tie.spec all-recovered-requires none-below-requires returns returns-2)
+rests-spec = tie.close (tie.spec (λ c κs. search needs) (λ c κs. search needs) returns returns-2)

@@ -11,12 +11,6 @@ use borrow.Author.Needs.{needs}
 use Rattle.fault_runs.proofs.fault_run.fault_run_refused.Statement.{statement}
 use Rattle.fault_runs.proofs.fault_run.fault_run_refused.Tie as tie
 
-check-fault-requires : tie.Need-check-fault-requires
-check-fault-requires c κs = search needs
-
-number-requires : tie.Need-number-requires
-number-requires c κs = search needs
-
 returns : tie.Need-returns
 unfolding faultRunRefused
 returns c =
@@ -24,9 +18,6 @@ returns c =
     let v = n .before in
     let a = v .before .before .before .args in
     rw (ne-eqb (faultRefusal (a .run .grid) (a .run .fault)) 0 (λ e. omega (arith, c .if1 .taken, n .number .ensures ∙ v .check-fault .ensures ∙ e)))
-
-total-steps-requires : tie.Need-total-steps-requires
-total-steps-requires c κs = search needs
 
 returns-2 : tie.Need-returns-2
 unfolding faultRunRefused
@@ -39,6 +30,4 @@ returns-2 c =
     rw (eq-eqb (faultRefusal (a .run .grid) (a .run .fault)) 0 z, t .total-steps .ensures, step-claims .counted (stepsOf (a .run .grid)) (accepted-claims .fault (a .run .grid) (a .run .fault) z))
 
 pub fault-run-refused-spec : {M : Type 1} → statement M
-fault-run-refused-spec =
-    tie.close
-    (tie.spec check-fault-requires number-requires returns total-steps-requires returns-2)
+fault-run-refused-spec = tie.close (tie.spec (λ c κs. search needs) (λ c κs. search needs) returns (λ c κs. search needs) returns-2)

@@ -4,18 +4,9 @@ use borrow.Author.Needs.{needs}
 use Rattle.fault_start.proofs.start.blank_fault_run.Statement.{statement}
 use Rattle.fault_start.proofs.start.blank_fault_run.Tie as tie
 
-blank-grid-requires : tie.Need-blank-grid-requires
-blank-grid-requires c κs = search needs
-
-blank-state-requires : tie.Need-blank-state-requires
-blank-state-requires c κs = search needs
-
-fresh-variables-requires : tie.Need-fresh-variables-requires
-fresh-variables-requires c κs = search needs
-
 returns : tie.Need-returns
 unfolding blankFaultRun
 returns c = rw (c .fresh-variables .ensures, c .before .blank-state .ensures, c .before .before .blank-grid .ensures)
 
 pub blank-fault-run-spec : {M : Type 1} → statement M
-blank-fault-run-spec = tie.close (tie.spec blank-grid-requires blank-state-requires fresh-variables-requires returns)
+blank-fault-run-spec = tie.close (tie.spec (λ c κs. search needs) (λ c κs. search needs) (λ c κs. search needs) returns)

@@ -8,15 +8,6 @@ use borrow.Author.Needs.{needs}
 use Rattle.fault_start.proofs.start.simulate_fault.Statement.{statement}
 use Rattle.fault_start.proofs.start.simulate_fault.Tie as tie
 
-check-fault-requires : tie.Need-check-fault-requires
-check-fault-requires c κs = search needs
-
-number-requires : tie.Need-number-requires
-number-requires c κs = search needs
-
-first-fault-variables-requires : tie.Need-first-fault-variables-requires
-first-fault-variables-requires c κs = search needs
-
 returns : tie.Need-returns
 unfolding startedFaultRun faultAfter
 returns c =
@@ -24,9 +15,6 @@ returns c =
     let a = n .before .before .args in
     let v = n .before .check-fault .ensures in
     (v, rw (eq-eqb (faultRefusal (a .g) (a .fault)) 0 (sym v ∙ sym (n .number .ensures) ∙ c .before .if1 .taken), c .first-fault-variables .ensures))
-
-blank-fault-run-requires : tie.Need-blank-fault-run-requires
-blank-fault-run-requires c κs = search needs
 
 returns-2 : tie.Need-returns-2
 unfolding startedFaultRun
@@ -37,12 +25,4 @@ returns-2 c =
     (v, rw (ne-eqb (faultRefusal (a .g) (a .fault)) 0 (λ e. c .before .if1 .left (n .number .ensures ∙ v ∙ e)), c .blank-fault-run .ensures))
 
 pub simulate-fault-spec : {M : Type 1} → statement M
-simulate-fault-spec =
-    tie.close
-    (tie.spec
-    check-fault-requires
-    number-requires
-    first-fault-variables-requires
-    returns
-    blank-fault-run-requires
-    returns-2)
+simulate-fault-spec = tie.close (tie.spec (λ c κs. search needs) (λ c κs. search needs) (λ c κs. search needs) returns (λ c κs. search needs) returns-2)

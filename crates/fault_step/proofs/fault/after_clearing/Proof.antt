@@ -5,18 +5,6 @@ use borrow.Author.Needs.{needs}
 use Rattle.fault_step.proofs.fault.after_clearing.Statement.{statement}
 use Rattle.fault_step.proofs.fault.after_clearing.Tie as tie
 
-all-recovered-requires : tie.Need-all-recovered-requires
-all-recovered-requires c κs = search needs
-
-recover-voltages-requires : tie.Need-recover-voltages-requires
-recover-voltages-requires c κs = search needs
-
-decayed-current-ka-requires : tie.Need-decayed-current-ka-requires
-decayed-current-ka-requires c κs = search needs
-
-choose-requires : tie.Need-choose-requires
-choose-requires c κs = search needs
-
 returns : tie.Need-returns
 unfolding afterClearing
 returns c =
@@ -25,11 +13,4 @@ returns c =
     rw (c .before .before .choose .ensures, c .before .before .before .before .before .decayed-current-ka .ensures, v .recover-voltages .ensures, r .all-recovered .ensures)
 
 pub after-clearing-spec : {M : Type 1} → statement M
-after-clearing-spec =
-    tie.close
-    (tie.spec
-    all-recovered-requires
-    recover-voltages-requires
-    decayed-current-ka-requires
-    choose-requires
-    returns)
+after-clearing-spec = tie.close (tie.spec (λ c κs. search needs) (λ c κs. search needs) (λ c κs. search needs) (λ c κs. search needs) returns)

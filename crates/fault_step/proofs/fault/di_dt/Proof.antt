@@ -3,14 +3,8 @@ use borrow.Author.Needs.{needs}
 use Rattle.fault_step.proofs.fault.di_dt.Statement.{statement}
 use Rattle.fault_step.proofs.fault.di_dt.Tie as tie
 
-abs-requires : tie.Need-abs-requires
-abs-requires c κs = search needs
-
-max-requires : tie.Need-max-requires
-max-requires c κs = search needs
-
 returns : tie.Need-returns
 returns c = rw (c .max .ensures, c .before .abs .ensures)
 
 pub di-dt-spec : {M : Type 1} → statement M
-di-dt-spec = tie.close (tie.spec abs-requires max-requires returns)
+di-dt-spec = tie.close (tie.spec (λ c κs. search needs) (λ c κs. search needs) returns)

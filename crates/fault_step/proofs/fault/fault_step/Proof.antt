@@ -5,32 +5,17 @@ use borrow.Author.Needs.{needs}
 use Rattle.fault_step.proofs.fault.fault_step.Statement.{statement}
 use Rattle.fault_step.proofs.fault.fault_step.Tie as tie
 
-waits-requires : tie.Need-waits-requires
-waits-requires c κs = search needs
-
-quiet-step-requires : tie.Need-quiet-step-requires
-quiet-step-requires c κs = search needs
-
 returns : tie.Need-returns
 returns c =
     let w = c .before .before in
     let a = w .before .before .args in
     c .quiet-step .ensures ∙ waiting (a .plan) (a .step) (a .v) (sym (w .waits .ensures) ∙ c .before .if1 .taken)
 
-step-time-ms-requires : tie.Need-step-time-ms-requires
-step-time-ms-requires c κs = search needs
-
-after-clearing-requires : tie.Need-after-clearing-requires
-after-clearing-requires c κs = search needs
-
 returns-2 : tie.Need-returns-2
 returns-2 c =
     let s = c .before .before in
     let a = s .before .before .before .before .args in
     c .after-clearing .ensures ∙ rw (s .step-time-ms .ensures) (cleared (a .plan) (a .step) (a .v) (c .before .if2 .taken))
-
-while-faulted-requires : tie.Need-while-faulted-requires
-while-faulted-requires c κs = search needs
 
 returns-3 : tie.Need-returns-3
 returns-3 c =
@@ -43,11 +28,4 @@ pub fault-step-spec : {M : Type 1} → statement M
 fault-step-spec =
     tie.close
     (tie.spec
-    waits-requires
-    quiet-step-requires
-    returns
-    step-time-ms-requires
-    after-clearing-requires
-    returns-2
-    while-faulted-requires
-    returns-3)
+    (λ c κs. search needs) (λ c κs. search needs) returns (λ c κs. search needs) (λ c κs. search needs) returns-2 (λ c κs. search needs) returns-3)

@@ -8,8 +8,5 @@ returns : tie.Need-returns
 unfolding blank
 returns c = rw (c .if1 .taken)
 
-returns-2 : tie.Need-returns-2
-returns-2 c = search needs
-
 pub opened-if-spec : {M : Type 1} → statement M
-opened-if-spec = tie.close (tie.spec returns returns-2)
+opened-if-spec = tie.close (tie.spec returns (λ c. search needs))

@@ -11,12 +11,6 @@ use mathlib.Core.Path.{_≡_, _∙_}
 use Rattle.fault_sweep.proofs.advance.is_broken.Statement.{statement}
 use Rattle.fault_sweep.proofs.advance.is_broken.Tie as tie
 
-check-sweep-requires : tie.Need-check-sweep-requires
-check-sweep-requires c κs = search needs
-
-number-requires : tie.Need-number-requires
-number-requires c κs = search needs
-
 returns : tie.Need-returns
 unfolding sweepBroken
 returns c =
@@ -24,12 +18,6 @@ returns c =
     let a = n .before .before .before .before .args .s in
     let e = n .number .ensures ∙ n .before .check-sweep .ensures in
     rw (ne-eqb (sweepRefusal (a .grid) (a .order)) 0 (λ z. omega (arith, c .if1 .taken, e)))
-
-case-count-requires : tie.Need-case-count-requires
-case-count-requires c κs = search needs
-
-total-steps-requires : tie.Need-total-steps-requires
-total-steps-requires c κs = search needs
 
 returns-2 : tie.Need-returns-2
 unfolding sweepBroken
@@ -43,12 +31,4 @@ returns-2 c =
     rw (t .total-steps .ensures, step-claims .counted (stepsOf (a .grid)) (accepted-claims .sweep (a .grid) (a .order) z), k .case-count .ensures, eq-eqb (sweepRefusal (a .grid) (a .order)) 0 z)
 
 pub is-broken-spec : {M : Type 1} → statement M
-is-broken-spec =
-    tie.close
-    (tie.spec
-    check-sweep-requires
-    number-requires
-    returns
-    case-count-requires
-    total-steps-requires
-    returns-2)
+is-broken-spec = tie.close (tie.spec (λ c κs. search needs) (λ c κs. search needs) returns (λ c κs. search needs) (λ c κs. search needs) returns-2)

@@ -7,9 +7,6 @@ use Rattle.field_columns.proofs.Digit.{digit-low, digit-high, digit-yes
 use Rattle.field_columns.proofs.scan.scan_step.Statement.{statement}
 use Rattle.field_columns.proofs.scan.scan_step.Tie as tie
 
-enum-told : tie.Need-enum-told
-enum-told c = search needs
-
 returns : tie.Need-returns
 returns c = simp (c .before .enum-told .given .1, eq-eqb _ _ (c .if1 .taken))
 
@@ -18,12 +15,6 @@ returns-2 c = simp (c .before .before .enum-told .given .1, ne-eqb _ _ (c .befor
 
 returns-3 : tie.Need-returns-3
 returns-3 c = simp (c .before .before .before .enum-told .given .1, ne-eqb _ _ (c .before .before .if1 .left), digit-high _ (c .if3 .taken))
-
-cast-t9 : tie.Need-cast-t9
-cast-t9 c = search needs
-
-enum-known-s : tie.Need-enum-known-s
-enum-known-s c = search needs
 
 returns-4 : tie.Need-returns-4
 returns-4 c = simp (c .before .before .s .given .1, eq-eqb _ _ (c .if4 .taken))
@@ -37,14 +28,8 @@ returns-6 c = simp (c .before .before .before .before .s .given .1, ne-eqb _ _ (
 mul-t11 : tie.Need-mul-t11
 mul-t11 c = omega (arith, subst Roomy (c .before .before .before .before .s .given .1) (c .before .before .before .before .before .before .pre))
 
-cast-t13 : tie.Need-cast-t13
-cast-t13 c = search needs
-
 add-t14 : tie.Need-add-t14
 add-t14 c = omega (arith, subst Roomy (c .before .before .before .before .s .given .1) (c .before .before .before .before .before .before .pre))
-
-enum-known-s-2 : tie.Need-enum-known-s-2
-enum-known-s-2 c = search needs
 
 returns-7 : tie.Need-returns-7
 returns-7 c = simp (c .before .before .s2 .given .1, digit-low _ (c .if7 .taken))
@@ -55,17 +40,11 @@ returns-8 c = simp (c .before .before .before .s2 .given .1, digit-high _ (c .if
 mul-t16 : tie.Need-mul-t16
 mul-t16 c = omega (arith, subst Roomy (c .before .before .before .s2 .given .1) (c .before .before .before .before .before .pre))
 
-cast-t18 : tie.Need-cast-t18
-cast-t18 c = search needs
-
 add-t19 : tie.Need-add-t19
 add-t19 c = omega (arith, subst Roomy (c .before .before .before .s2 .given .1) (c .before .before .before .before .before .pre))
 
 add-t20 : tie.Need-add-t20
 add-t20 c = omega (arith, subst Roomy (c .before .before .before .s2 .given .1) (c .before .before .before .before .before .pre))
-
-enum-told-2 : tie.Need-enum-told-2
-enum-told-2 c = search needs
 
 returns-9 : tie.Need-returns-9
 returns-9 c = simp (c .before .before .before .enum-told .given .1, ne-eqb _ _ (c .before .before .if1 .left), digit-yes _ (c .before .if2 .left) (c .if3 .left))
@@ -76,34 +55,10 @@ returns-10 c = simp (c .before .before .before .before .s .given .1, ne-eqb _ _ 
 returns-11 : tie.Need-returns-11
 returns-11 c = simp (c .before .before .before .s2 .given .1, digit-yes _ (c .before .if7 .left) (c .if8 .left))
 
-returns-12 : tie.Need-returns-12
-returns-12 c = search needs
-
 pub scan-step-spec : {M : Type 1} → statement M
 scan-step-spec =
     tie.close
     (tie.spec
-    enum-told
-    returns
-    returns-2
-    returns-3
-    cast-t9
-    enum-known-s
-    returns-4
-    returns-5
-    returns-6
-    mul-t11
-    cast-t13
-    add-t14
-    enum-known-s-2
-    returns-7
-    returns-8
-    mul-t16
-    cast-t18
-    add-t19
-    add-t20
-    enum-told-2
-    returns-9
-    returns-10
-    returns-11
-    returns-12)
+    (λ c. search needs) returns returns-2 returns-3 (λ c. search needs) (λ c. search needs) returns-4 returns-5 returns-6 mul-t11 (λ c. search needs)
+    add-t14 (λ c. search needs) returns-7 returns-8 mul-t16 (λ c. search needs) add-t19 add-t20 (λ c. search needs) returns-9 returns-10 returns-11
+    (λ c. search needs))

@@ -5,15 +5,6 @@ use borrow.Author.Needs.{needs}
 use Rattle.field_values.proofs.fields.real_at.Statement.{statement}
 use Rattle.field_values.proofs.fields.real_at.Tie as tie
 
-field-at-requires : tie.Need-field-at-requires
-field-at-requires c κs = search needs
-
-enum-known-field : tie.Need-enum-known-field
-enum-known-field c = search needs
-
-enum-told : tie.Need-enum-told
-enum-told c = search needs
-
 returns : tie.Need-returns
 returns c = let a = c .before .before .before .before .args in real-wrong (take 12 (drop (a .at) (a .line .now))) (sym (c .before .before .field-at .ensures) ∙ c .enum-told .given .1)
 
@@ -24,12 +15,4 @@ returns-2 : tie.Need-returns-2
 returns-2 c = let a = c .before .before .before .before .before .before .args in real-is (take 12 (drop (a .at) (a .line .now))) (c .before .before .field .given .0 .0) (sym (c .before .before .before .before .field-at .ensures) ∙ c .before .before .field .given .1) (c .nearest-double .result) (c .nearest-double .ensures)
 
 pub real-at-spec : {M : Type 1} → statement M
-real-at-spec =
-    tie.close
-    (tie.spec
-    field-at-requires
-    enum-known-field
-    enum-told
-    returns
-    nearest-double-requires
-    returns-2)
+real-at-spec = tie.close (tie.spec (λ c κs. search needs) (λ c. search needs) (λ c. search needs) returns nearest-double-requires returns-2)

@@ -15,9 +15,6 @@ power-small r p h e = omega (arith, pow-le-pow-right {n = 10} (omega arith) h)
 int-to-float-d : tie.Need-int-to-float-d
 int-to-float-d c = in-float _ (c .before .pre .0)
 
-power-of-ten-requires : tie.Need-power-of-ten-requires
-power-of-ten-requires c κs = search needs
-
 int-to-float-p : tie.Need-int-to-float-p
 int-to-float-p c = in-float _ (power-small (c .before .power-of-ten .result) (c .before .before .before .args .places) (c .before .before .before .pre .1) (c .before .power-of-ten .ensures))
 
@@ -29,4 +26,4 @@ returns c =
     ∙ ap (round binary64 false (a .args .digits)) (p .ensures)
 
 pub nearest-double-spec : {M : Type 1} → statement M
-nearest-double-spec = tie.close (tie.spec int-to-float-d power-of-ten-requires int-to-float-p returns)
+nearest-double-spec = tie.close (tie.spec int-to-float-d (λ c κs. search needs) int-to-float-p returns)

@@ -10,8 +10,5 @@ returns c = nan-above _ (c .if1 .taken)
 float-from-bits-result : tie.Need-float-from-bits-result
 float-from-bits-result c = no-nan-below _ (c .if1 .left)
 
-returns-2 : tie.Need-returns-2
-returns-2 c = search needs
-
 pub from-bits-spec : {M : Type 1} → statement M
-from-bits-spec = tie.close (tie.spec float-from-bits-result returns returns-2)
+from-bits-spec = tie.close (tie.spec float-from-bits-result returns (λ c. search needs))

@@ -13,12 +13,6 @@ returns c = below-one _ (search needs) (c .before .pre) (c .if1 .taken)
 returns-2 : tie.Need-returns-2
 returns-2 c = no-fraction _ (search needs) (c .before .before .pre) (c .if2 .taken)
 
-sub-without-last : tie.Need-sub-without-last
-sub-without-last c = search needs
-
-without-last-requires : tie.Need-without-last-requires
-without-last-requires c κs = search needs
-
 float-from-bits-result : tie.Need-float-from-bits-result
 float-from-bits-result c =
     let a = c .before .before in
@@ -30,13 +24,4 @@ returns-3 c =
     fraction-cleared _ (search needs) (a .before .pre) (a .if1 .left) (c .before .if2 .left) _ (c .without-last .ensures)
 
 pub whole-part-above-spec : {M : Type 1} → statement M
-whole-part-above-spec =
-    tie.close
-    (tie.spec
-    float-to-bits-b
-    returns
-    returns-2
-    sub-without-last
-    without-last-requires
-    float-from-bits-result
-    returns-3)
+whole-part-above-spec = tie.close (tie.spec float-to-bits-b returns returns-2 (λ c. search needs) (λ c κs. search needs) float-from-bits-result returns-3)

@@ -6,9 +6,6 @@ use Rattle.float64.proofs.Whole.{one-shifted}
 use Rattle.float64.proofs.trunc.without_last.Statement.{statement}
 use Rattle.float64.proofs.trunc.without_last.Tie as tie
 
-shl-result : tie.Need-shl-result
-shl-result c = search needs
-
 rem-result : tie.Need-rem-result
 rem-result c = rw (one-shifted (c .args .n) (c .pre)) (pow-pos (c .args .n))
 
@@ -19,4 +16,4 @@ returns : tie.Need-returns
 returns c = rw (one-shifted (c .args .n) (c .pre))
 
 pub without-last-spec : {M : Type 1} → statement M
-without-last-spec = tie.close (tie.spec shl-result rem-result sub-result returns)
+without-last-spec = tie.close (tie.spec (λ c. search needs) rem-result sub-result returns)

@@ -20,36 +20,6 @@ abbrev μ-loop : tie.MeasureT-loop
 loop-holds : tie.Need-loop-holds Inv-loop μ-loop
 loop-holds c = (omega arith, upto-none _ _)
 
-mul-sums : tie.Need-mul-sums Inv-loop μ-loop
-mul-sums c = search needs
-
-element-copy-out-sums : tie.Need-element-copy-out-sums Inv-loop μ-loop
-element-copy-out-sums c = search needs
-
-mul-sums-2 : tie.Need-mul-sums-2 Inv-loop μ-loop
-mul-sums-2 c = search needs
-
-add-sums : tie.Need-add-sums Inv-loop μ-loop
-add-sums c = search needs
-
-mul-sums-3 : tie.Need-mul-sums-3 Inv-loop μ-loop
-mul-sums-3 c = search needs
-
-element-copy-out-sums-2 : tie.Need-element-copy-out-sums-2 Inv-loop μ-loop
-element-copy-out-sums-2 c = search needs
-
-mul-sums-4 : tie.Need-mul-sums-4 Inv-loop μ-loop
-mul-sums-4 c = search needs
-
-element-write-sums : tie.Need-element-write-sums Inv-loop μ-loop
-element-write-sums c = search needs
-
-add-i : tie.Need-add-i Inv-loop μ-loop
-add-i c = search needs
-
-loop-less : tie.Need-loop-less Inv-loop μ-loop
-loop-less c = search needs
-
 loop-again : tie.Need-loop-again Inv-loop μ-loop
 loop-again c =
     let l = c .before .before .before in
@@ -66,18 +36,5 @@ pub add-column-spec : {M : Type 1} → statement M
 add-column-spec =
     tie.close
     (tie.spec
-    Inv-loop
-    μ-loop
-    loop-holds
-    mul-sums
-    element-copy-out-sums
-    mul-sums-2
-    add-sums
-    mul-sums-3
-    element-copy-out-sums-2
-    mul-sums-4
-    element-write-sums
-    add-i
-    loop-less
-    loop-again
-    returns)
+    Inv-loop μ-loop loop-holds (λ c. search needs) (λ c. search needs) (λ c. search needs) (λ c. search needs) (λ c. search needs) (λ c. search needs)
+    (λ c. search needs) (λ c. search needs) (λ c. search needs) (λ c. search needs) loop-again returns)

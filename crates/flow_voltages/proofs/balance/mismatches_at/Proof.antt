@@ -11,12 +11,6 @@ station-currents-requires : tie.Need-station-currents-requires
 unfolding blank
 station-currents-requires c κs = (c .before .pre .0, c .before .pre .1, refl)
 
-power-mismatches-requires : tie.Need-power-mismatches-requires
-power-mismatches-requires c κs = search needs
-
-largest-mismatch-requires : tie.Need-largest-mismatch-requires
-largest-mismatch-requires c κs = search needs
-
 returns : tie.Need-returns
 returns c =
     let d = c .before .before in
@@ -27,10 +21,4 @@ returns c =
     (d-are, c .largest-mismatch .ensures ∙ rw d-are)
 
 pub mismatches-at-spec : {M : Type 1} → statement M
-mismatches-at-spec =
-    tie.close
-    (tie.spec
-    station-currents-requires
-    power-mismatches-requires
-    largest-mismatch-requires
-    returns)
+mismatches-at-spec = tie.close (tie.spec station-currents-requires (λ c κs. search needs) (λ c κs. search needs) returns)

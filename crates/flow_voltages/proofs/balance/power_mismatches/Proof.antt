@@ -22,39 +22,6 @@ abbrev μ-loop : tie.MeasureT-loop
 loop-holds : tie.Need-loop-holds Inv-loop μ-loop
 loop-holds c = (omega arith, rw (c .pre .1) (upto-first 32 _ nought refl))
 
-add-loop : tie.Need-add-loop Inv-loop μ-loop
-add-loop c = search needs
-
-add-i : tie.Need-add-i Inv-loop μ-loop
-add-i c = search needs
-
-mul-d : tie.Need-mul-d Inv-loop μ-loop
-mul-d c = search needs
-
-element-copy-out-d : tie.Need-element-copy-out-d Inv-loop μ-loop
-element-copy-out-d c = search needs
-
-mul-d-2 : tie.Need-mul-d-2 Inv-loop μ-loop
-mul-d-2 c = search needs
-
-element-copy-out-d-2 : tie.Need-element-copy-out-d-2 Inv-loop μ-loop
-element-copy-out-d-2 c = search needs
-
-mul-d-3 : tie.Need-mul-d-3 Inv-loop μ-loop
-mul-d-3 c = search needs
-
-element-copy-out-d-3 : tie.Need-element-copy-out-d-3 Inv-loop μ-loop
-element-copy-out-d-3 c = search needs
-
-mul-d-4 : tie.Need-mul-d-4 Inv-loop μ-loop
-mul-d-4 c = search needs
-
-element-write-d : tie.Need-element-write-d Inv-loop μ-loop
-element-write-d c = search needs
-
-loop-less : tie.Need-loop-less Inv-loop μ-loop
-loop-less c = search needs
-
 loop-again : tie.Need-loop-again Inv-loop μ-loop
 loop-again c =
     let l = c .before .before .before .before in
@@ -70,19 +37,5 @@ pub power-mismatches-spec : {M : Type 1} → statement M
 power-mismatches-spec =
     tie.close
     (tie.spec
-    Inv-loop
-    μ-loop
-    loop-holds
-    add-loop
-    add-i
-    mul-d
-    element-copy-out-d
-    mul-d-2
-    element-copy-out-d-2
-    mul-d-3
-    element-copy-out-d-3
-    mul-d-4
-    element-write-d
-    loop-less
-    loop-again
-    returns)
+    Inv-loop μ-loop loop-holds (λ c. search needs) (λ c. search needs) (λ c. search needs) (λ c. search needs) (λ c. search needs) (λ c. search needs)
+    (λ c. search needs) (λ c. search needs) (λ c. search needs) (λ c. search needs) (λ c. search needs) loop-again returns)

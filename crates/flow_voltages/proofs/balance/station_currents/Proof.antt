@@ -18,21 +18,6 @@ abbrev μ-loop : tie.MeasureT-loop
 loop-holds : tie.Need-loop-holds Inv-loop μ-loop
 loop-holds c = (omega arith, c .pre .2 ∙ column-none (c .args .m .now) (c .args .n) (c .args .v .now))
 
-mul-add-column : tie.Need-mul-add-column Inv-loop μ-loop
-mul-add-column c = search needs
-
-element-copy-out-add-column : tie.Need-element-copy-out-add-column Inv-loop μ-loop
-element-copy-out-add-column c = search needs
-
-add-column-requires : tie.Need-add-column-requires Inv-loop μ-loop
-add-column-requires c κs = search needs
-
-add-j : tie.Need-add-j Inv-loop μ-loop
-add-j c = search needs
-
-loop-less : tie.Need-loop-less Inv-loop μ-loop
-loop-less c = search needs
-
 loop-again : tie.Need-loop-again Inv-loop μ-loop
 loop-again c =
     let l = c .before .before .before .before in
@@ -50,13 +35,5 @@ pub station-currents-spec : {M : Type 1} → statement M
 station-currents-spec =
     tie.close
     (tie.spec
-    Inv-loop
-    μ-loop
-    loop-holds
-    mul-add-column
-    element-copy-out-add-column
-    add-column-requires
-    add-j
-    loop-less
-    loop-again
+    Inv-loop μ-loop loop-holds (λ c. search needs) (λ c. search needs) (λ c κs. search needs) (λ c. search needs) (λ c. search needs) loop-again
     returns)

@@ -18,12 +18,6 @@ symmetric k =
     let p = k .before .before in
     rw (k .conductances-of .ensures, p .present .ensures) (of-grid-symmetric (p .before .args .g))
 
-present-requires : tie.Need-present-requires
-present-requires c κs = search needs
-
-conductances-of-requires : tie.Need-conductances-of-requires
-conductances-of-requires c κs = search needs
-
 run-passes-requires : tie.Need-run-passes-requires
 run-passes-requires c κs = let k = c .before in (small (k .before .before), symmetric k)
 
@@ -42,11 +36,4 @@ returns c =
     (found, c .station-currents .ensures ∙ rw (k .conductances-of .ensures, p .present .ensures, found))
 
 pub find-with-currents-spec : {M : Type 1} → statement M
-find-with-currents-spec =
-    tie.close
-    (tie.spec
-    present-requires
-    conductances-of-requires
-    run-passes-requires
-    station-currents-requires
-    returns)
+find-with-currents-spec = tie.close (tie.spec (λ c κs. search needs) (λ c κs. search needs) run-passes-requires station-currents-requires returns)

@@ -32,33 +32,6 @@ long c = search (needs, unmapped)
 loop-holds : tie.Need-loop-holds Inv-loop μ-loop
 loop-holds c = (omega arith, rw (c .pre .1) (upto-none _ _), rw (c .pre .2) (upto-none _ _))
 
-mul-s : tie.Need-mul-s Inv-loop μ-loop
-mul-s c = search needs
-
-array-copy-out-s : tie.Need-array-copy-out-s Inv-loop μ-loop
-array-copy-out-s c = search needs
-
-mul-rated : tie.Need-mul-rated Inv-loop μ-loop
-mul-rated c = search needs
-
-element-write-rated : tie.Need-element-write-rated Inv-loop μ-loop
-element-write-rated c = search needs
-
-wanted-power-requires : tie.Need-wanted-power-requires Inv-loop μ-loop
-wanted-power-requires c κs = search needs
-
-mul-wanted : tie.Need-mul-wanted Inv-loop μ-loop
-mul-wanted c = search needs
-
-element-write-wanted : tie.Need-element-write-wanted Inv-loop μ-loop
-element-write-wanted c = search needs
-
-add-i : tie.Need-add-i Inv-loop μ-loop
-add-i c = search needs
-
-loop-less : tie.Need-loop-less Inv-loop μ-loop
-loop-less c = search needs
-
 loop-again : tie.Need-loop-again Inv-loop μ-loop
 loop-again c =
     let l = c .before .before .before in
@@ -79,17 +52,5 @@ pub read-ratings-spec : {M : Type 1} → statement M
 read-ratings-spec =
     tie.close
     (tie.spec
-    Inv-loop
-    μ-loop
-    loop-holds
-    mul-s
-    array-copy-out-s
-    mul-rated
-    element-write-rated
-    wanted-power-requires
-    mul-wanted
-    element-write-wanted
-    add-i
-    loop-less
-    loop-again
-    returns)
+    Inv-loop μ-loop loop-holds (λ c. search needs) (λ c. search needs) (λ c. search needs) (λ c. search needs) (λ c κs. search needs)
+    (λ c. search needs) (λ c. search needs) (λ c. search needs) (λ c. search needs) loop-again returns)

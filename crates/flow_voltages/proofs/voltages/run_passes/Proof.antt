@@ -28,15 +28,6 @@ mismatches-at-requires c κs =
     let s = c .before .before .before .before .before .before .before .before in
     (s .pre .0, s .pre .1, refl)
 
-add-passes : tie.Need-add-passes Inv-loop μ-loop
-add-passes c = search needs
-
-move-voltages-requires : tie.Need-move-voltages-requires Inv-loop μ-loop
-move-voltages-requires c κs = search needs
-
-loop-less : tie.Need-loop-less Inv-loop μ-loop
-loop-less c = search needs
-
 loop-again : tie.Need-loop-again Inv-loop μ-loop
 loop-again c =
     let k = c .before .before .before .before .before in
@@ -67,14 +58,5 @@ pub run-passes-spec : {M : Type 1} → statement M
 run-passes-spec =
     tie.close
     (tie.spec
-    Inv-loop
-    μ-loop
-    read-ratings-requires
-    loop-holds
-    mismatches-at-requires
-    add-passes
-    move-voltages-requires
-    loop-less
-    loop-again
-    returns
-    returns-2)
+    Inv-loop μ-loop read-ratings-requires loop-holds mismatches-at-requires (λ c. search needs) (λ c κs. search needs) (λ c. search needs) loop-again
+    returns returns-2)

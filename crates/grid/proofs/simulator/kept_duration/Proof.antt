@@ -7,12 +7,6 @@ use Rattle.grid.specs.Simulator.{keptDuration}
 use Rattle.grid.proofs.simulator.kept_duration.Statement.{statement}
 use Rattle.grid.proofs.simulator.kept_duration.Tie as tie
 
-max-requires : tie.Need-max-requires
-max-requires c κs = search needs
-
-in-range-requires : tie.Need-in-range-requires
-in-range-requires c κs = search needs
-
 returns : tie.Need-returns
 unfolding keptDuration realIn ofBits ofInt round
 returns c = rw (sym (c .before .in-range .ensures) ∙ c .if1 .taken) (c .before .before .max .ensures)
@@ -22,4 +16,4 @@ unfolding keptDuration realIn ofBits ofInt round
 returns-2 c = rw (sym (c .before .in-range .ensures) ∙ c .if1 .left)
 
 pub kept-duration-spec : {M : Type 1} → statement M
-kept-duration-spec = tie.close (tie.spec max-requires in-range-requires returns returns-2)
+kept-duration-spec = tie.close (tie.spec (λ c κs. search needs) (λ c κs. search needs) returns returns-2)

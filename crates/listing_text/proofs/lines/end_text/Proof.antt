@@ -4,14 +4,8 @@ use borrow.Author.Needs.{needs}
 use Rattle.listing_text.proofs.lines.end_text.Statement.{statement}
 use Rattle.listing_text.proofs.lines.end_text.Tie as tie
 
-slice-aggregate-put-two : tie.Need-slice-aggregate-put-two
-slice-aggregate-put-two c = search needs
-
-put-two-requires : tie.Need-put-two-requires
-put-two-requires c κs = search needs
-
 returns : tie.Need-returns
 returns c = let a = c .before .before .before .args in c .before .put-two .ensures ∙ end-written (a .cases) (a .steps)
 
 pub end-text-spec : {M : Type 1} → statement M
-end-text-spec = tie.close (tie.spec slice-aggregate-put-two put-two-requires returns)
+end-text-spec = tie.close (tie.spec (λ c. search needs) (λ c κs. search needs) returns)

@@ -6,18 +6,6 @@ use borrow.Author.Needs.{needs}
 use Rattle.listing_text.proofs.lines.put_two.Statement.{statement}
 use Rattle.listing_text.proofs.lines.put_two.Tie as tie
 
-slice-write-out : tie.Need-slice-write-out
-slice-write-out c = search needs
-
-put-number-requires : tie.Need-put-number-requires
-put-number-requires c κs = search needs
-
-add-put-number : tie.Need-add-put-number
-add-put-number c = search needs
-
-put-number-requires-2 : tie.Need-put-number-requires-2
-put-number-requires-2 c κs = search needs
-
 same-length : tie.Need-same-length
 same-length c = c .before .out2 .given ∙ c .before .before .before .before .before .out .given ∙ simp length-set
 
@@ -28,4 +16,4 @@ returns c =
     ∙ ap (λ t. withNumber t (1 + a .width) 12 (a .second)) (c .before .before .before .before .before .before .put-number .ensures)
 
 pub put-two-spec : {M : Type 1} → statement M
-put-two-spec = tie.close (tie.spec slice-write-out put-number-requires add-put-number put-number-requires-2 same-length returns)
+put-two-spec = tie.close (tie.spec (λ c. search needs) (λ c κs. search needs) (λ c. search needs) (λ c κs. search needs) same-length returns)

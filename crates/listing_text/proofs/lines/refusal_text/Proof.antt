@@ -4,14 +4,8 @@ use borrow.Author.Needs.{needs}
 use Rattle.listing_text.proofs.lines.refusal_text.Statement.{statement}
 use Rattle.listing_text.proofs.lines.refusal_text.Tie as tie
 
-slice-aggregate-put-two : tie.Need-slice-aggregate-put-two
-slice-aggregate-put-two c = search needs
-
-put-two-requires : tie.Need-put-two-requires
-put-two-requires c κs = search needs
-
 returns : tie.Need-returns
 returns c = let a = c .before .before .before .args in c .before .put-two .ensures ∙ refusal-written (a .number) (a .line)
 
 pub refusal-text-spec : {M : Type 1} → statement M
-refusal-text-spec = tie.close (tie.spec slice-aggregate-put-two put-two-requires returns)
+refusal-text-spec = tie.close (tie.spec (λ c. search needs) (λ c κs. search needs) returns)

@@ -7,15 +7,6 @@ use borrow.Author.Needs.{needs}
 use Rattle.listing_text.proofs.lines.row_text.Statement.{statement}
 use Rattle.listing_text.proofs.lines.row_text.Tie as tie
 
-array-write-text : tie.Need-array-write-text
-array-write-text c = search needs
-
-slice-aggregate-put-columns : tie.Need-slice-aggregate-put-columns
-slice-aggregate-put-columns c = search needs
-
-array-share-prefix-row : tie.Need-array-share-prefix-row
-array-share-prefix-row c = search needs
-
 slice-aggregate-put-columns-2 : tie.Need-slice-aggregate-put-columns-2
 slice-aggregate-put-columns-2 c =
     let l : length (c .before .before .args .t1) ≡ 8 = search needs in
@@ -23,18 +14,6 @@ slice-aggregate-put-columns-2 c =
 
 put-columns-requires : tie.Need-put-columns-requires
 put-columns-requires c κs = (omega arith, (omega arith, rw length-take (omega arith)))
-
-slice-aggregate-put-columns-3 : tie.Need-slice-aggregate-put-columns-3
-slice-aggregate-put-columns-3 c = search needs
-
-sub-put-columns : tie.Need-sub-put-columns
-sub-put-columns c = search needs
-
-part-put-columns-start : tie.Need-part-put-columns-start
-part-put-columns-start c = search needs
-
-part-put-columns-end : tie.Need-part-put-columns-end
-part-put-columns-end c = search needs
 
 put-columns-requires-2 : tie.Need-put-columns-requires-2
 put-columns-requires-2 c κs = (omega arith, (omega arith, rw length-take (omega arith)))
@@ -48,14 +27,5 @@ pub row-text-spec : {M : Type 1} → statement M
 row-text-spec =
     tie.close
     (tie.spec
-    array-write-text
-    slice-aggregate-put-columns
-    array-share-prefix-row
-    slice-aggregate-put-columns-2
-    put-columns-requires
-    slice-aggregate-put-columns-3
-    sub-put-columns
-    part-put-columns-start
-    part-put-columns-end
-    put-columns-requires-2
-    returns)
+    (λ c. search needs) (λ c. search needs) (λ c. search needs) slice-aggregate-put-columns-2 put-columns-requires (λ c. search needs)
+    (λ c. search needs) (λ c. search needs) (λ c. search needs) put-columns-requires-2 returns)

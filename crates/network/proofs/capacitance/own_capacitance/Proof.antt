@@ -6,30 +6,6 @@ use borrow.Author.Needs.{needs}
 use Rattle.network.proofs.capacitance.own_capacitance.Statement.{statement}
 use Rattle.network.proofs.capacitance.own_capacitance.Tie as tie
 
-enum-told : tie.Need-enum-told
-enum-told c = search needs
-
-rated-capacitance-requires : tie.Need-rated-capacitance-requires
-rated-capacitance-requires c κs = search needs
-
-enum-told-2 : tie.Need-enum-told-2
-enum-told-2 c = search needs
-
-rated-capacitance-requires-2 : tie.Need-rated-capacitance-requires-2
-rated-capacitance-requires-2 c κs = search needs
-
-enum-known-topology : tie.Need-enum-known-topology
-enum-known-topology c = search needs
-
-mmc-capacitance-requires : tie.Need-mmc-capacitance-requires
-mmc-capacitance-requires c κs = search needs
-
-enum-told-3 : tie.Need-enum-told-3
-enum-told-3 c = search needs
-
-rated-capacitance-requires-3 : tie.Need-rated-capacitance-requires-3
-rated-capacitance-requires-3 c κs = search needs
-
 returns : tie.Need-returns
 unfolding ownCapacitance
 returns c =
@@ -58,15 +34,5 @@ pub own-capacitance-spec : {M : Type 1} → statement M
 own-capacitance-spec =
     tie.close
     (tie.spec
-    enum-told
-    rated-capacitance-requires
-    enum-told-2
-    rated-capacitance-requires-2
-    enum-known-topology
-    mmc-capacitance-requires
-    enum-told-3
-    rated-capacitance-requires-3
-    returns
-    returns-2
-    returns-3
-    returns-4)
+    (λ c. search needs) (λ c κs. search needs) (λ c. search needs) (λ c κs. search needs) (λ c. search needs) (λ c κs. search needs)
+    (λ c. search needs) (λ c κs. search needs) returns returns-2 returns-3 returns-4)

@@ -9,15 +9,6 @@ use Rattle.network.proofs.capacitance.station_capacitance_uf.Tie as tie
 long : (c : tie.Start) → length (c .args .g .cables) ≡ 64
 long c = search (needs, unmapped)
 
-present-requires : tie.Need-present-requires
-present-requires c κs = search needs
-
-joined-capacitance-requires : tie.Need-joined-capacitance-requires
-joined-capacitance-requires c κs = search needs
-
-capacitance-with-requires : tie.Need-capacitance-with-requires
-capacitance-with-requires c κs = search needs
-
 returns : tie.Need-returns
 returns c =
     let j = c .before in
@@ -26,6 +17,4 @@ returns c =
     c .capacitance-with .ensures ∙ rw (j .joined-capacitance .ensures, take-cut (g .cables) (g .«n_cables») 64 _ (long s) (j .before .present .ensures))
 
 pub station-capacitance-uf-spec : {M : Type 1} → statement M
-station-capacitance-uf-spec =
-    tie.close
-    (tie.spec present-requires joined-capacitance-requires capacitance-with-requires returns)
+station-capacitance-uf-spec = tie.close (tie.spec (λ c κs. search needs) (λ c κs. search needs) (λ c κs. search needs) returns)

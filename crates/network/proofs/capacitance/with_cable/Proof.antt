@@ -5,14 +5,8 @@ use borrow.Author.Needs.{needs}
 use Rattle.network.proofs.capacitance.with_cable.Statement.{statement}
 use Rattle.network.proofs.capacitance.with_cable.Tie as tie
 
-half-of-requires : tie.Need-half-of-requires
-half-of-requires c κs = search needs
-
 returns : tie.Need-returns
 returns c = rw (c .half-of .ensures, eq-eqb _ _ (c .before .if1 .taken))
-
-half-of-requires-2 : tie.Need-half-of-requires-2
-half-of-requires-2 c κs = search needs
 
 returns-2 : tie.Need-returns-2
 returns-2 c =
@@ -23,5 +17,4 @@ returns-3 : tie.Need-returns-3
 returns-3 c = rw (ne-eqb _ _ (c .before .before .if1 .left), ne-eqb _ _ (c .if2 .left))
 
 pub with-cable-spec : {M : Type 1} → statement M
-with-cable-spec =
-    tie.close (tie.spec half-of-requires returns half-of-requires-2 returns-2 returns-3)
+with-cable-spec = tie.close (tie.spec (λ c κs. search needs) returns (λ c κs. search needs) returns-2 returns-3)

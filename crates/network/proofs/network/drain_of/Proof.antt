@@ -16,18 +16,6 @@ use Rattle.network.proofs.network.drain_of.Tie as tie
 long : (c : tie.Start) → length (c .args .g .cables) ≡ 64
 long c = search (needs, unmapped)
 
-present-requires : tie.Need-present-requires
-present-requires c κs = search needs
-
-mul-c : tie.Need-mul-c
-mul-c c = search needs
-
-array-copy-out-c : tie.Need-array-copy-out-c
-array-copy-out-c c = search needs
-
-max-requires : tie.Need-max-requires
-max-requires c κs = search needs
-
 returns : tie.Need-returns
 unfolding drainOf
 returns c =
@@ -40,9 +28,6 @@ returns c =
     let same : getD (g .cables) k _ ≡ getD (g .cables) k blankCable = getD-within (g .cables) k _ blankCable (omega (arith, long s)) in
     rw (lt-ltb k _ l, c .max .ensures) (ap (λ (x : DcCable). drainAt x f) same)
 
-no-drain-requires : tie.Need-no-drain-requires
-no-drain-requires c κs = search needs
-
 returns-2 : tie.Need-returns-2
 unfolding drainOf
 returns-2 c =
@@ -51,13 +36,4 @@ returns-2 c =
     c .no-drain .ensures ∙ rw (le-ltb (s .args .fault .«location_cable_id») _ l)
 
 pub drain-of-spec : {M : Type 1} → statement M
-drain-of-spec =
-    tie.close
-    (tie.spec
-    present-requires
-    mul-c
-    array-copy-out-c
-    max-requires
-    returns
-    no-drain-requires
-    returns-2)
+drain-of-spec = tie.close (tie.spec (λ c κs. search needs) (λ c. search needs) (λ c. search needs) (λ c κs. search needs) returns (λ c κs. search needs) returns-2)

@@ -19,12 +19,6 @@ few-stations c = omega (arith, c .present .ensures)
 few-cables : (c : tie.After-present2) → c .present2 .result ≤ 64
 few-cables c = omega (arith, c .present2 .ensures)
 
-present-requires : tie.Need-present-requires
-present-requires c κs = search needs
-
-present-requires-2 : tie.Need-present-requires-2
-present-requires-2 c κs = search needs
-
 read-ends-requires : tie.Need-read-ends-requires
 unfolding blank
 read-ends-requires c κs = (few-cables (c .before .before .before .before), refl, refl)
@@ -50,12 +44,4 @@ returns c =
     rw (c .read-capacitances .ensures, i .read-impedances .ensures .0, i .read-impedances .ensures .1, e .read-ends .ensures .0, e .read-ends .ensures .1, take-cut (g .cables) (g .«n_cables») 64 _ (long s) (p .present2 .ensures), p .present2 .ensures, p .before .present .ensures)
 
 pub network-of-spec : {M : Type 1} → statement M
-network-of-spec =
-    tie.close
-    (tie.spec
-    present-requires
-    present-requires-2
-    read-ends-requires
-    read-impedances-requires
-    read-capacitances-requires
-    returns)
+network-of-spec = tie.close (tie.spec (λ c κs. search needs) (λ c κs. search needs) read-ends-requires read-impedances-requires read-capacitances-requires returns)

@@ -27,33 +27,6 @@ long c = search (needs, unmapped)
 loop-holds : tie.Need-loop-holds Inv-loop μ-loop
 loop-holds c = (omega arith, rw (c .pre .2) (upto-none _ _))
 
-mul-s : tie.Need-mul-s Inv-loop μ-loop
-mul-s c = search needs
-
-array-copy-out-s : tie.Need-array-copy-out-s Inv-loop μ-loop
-array-copy-out-s c = search needs
-
-joined-capacitance-requires : tie.Need-joined-capacitance-requires Inv-loop μ-loop
-joined-capacitance-requires c κs = search needs
-
-capacitance-with-requires : tie.Need-capacitance-with-requires Inv-loop μ-loop
-capacitance-with-requires c κs = search needs
-
-max-requires : tie.Need-max-requires Inv-loop μ-loop
-max-requires c κs = search needs
-
-mul-c : tie.Need-mul-c Inv-loop μ-loop
-mul-c c = search needs
-
-element-write-c : tie.Need-element-write-c Inv-loop μ-loop
-element-write-c c = search needs
-
-add-i : tie.Need-add-i Inv-loop μ-loop
-add-i c = search needs
-
-loop-less : tie.Need-loop-less Inv-loop μ-loop
-loop-less c = search needs
-
 loop-again : tie.Need-loop-again Inv-loop μ-loop
 loop-again c =
     let j = c .before .before in
@@ -73,17 +46,5 @@ pub read-capacitances-spec : {M : Type 1} → statement M
 read-capacitances-spec =
     tie.close
     (tie.spec
-    Inv-loop
-    μ-loop
-    loop-holds
-    mul-s
-    array-copy-out-s
-    joined-capacitance-requires
-    capacitance-with-requires
-    max-requires
-    mul-c
-    element-write-c
-    add-i
-    loop-less
-    loop-again
-    returns)
+    Inv-loop μ-loop loop-holds (λ c. search needs) (λ c. search needs) (λ c κs. search needs) (λ c κs. search needs) (λ c κs. search needs)
+    (λ c. search needs) (λ c. search needs) (λ c. search needs) (λ c. search needs) loop-again returns)

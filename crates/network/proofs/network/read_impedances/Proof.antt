@@ -28,36 +28,6 @@ long c = search (needs, unmapped)
 loop-holds : tie.Need-loop-holds Inv-loop μ-loop
 loop-holds c = (omega arith, rw (c .pre .1) (upto-none _ _), rw (c .pre .2) (upto-none _ _))
 
-mul-c : tie.Need-mul-c Inv-loop μ-loop
-mul-c c = search needs
-
-array-copy-out-c : tie.Need-array-copy-out-c Inv-loop μ-loop
-array-copy-out-c c = search needs
-
-cable-resistance-requires : tie.Need-cable-resistance-requires Inv-loop μ-loop
-cable-resistance-requires c κs = search needs
-
-mul-r : tie.Need-mul-r Inv-loop μ-loop
-mul-r c = search needs
-
-element-write-r : tie.Need-element-write-r Inv-loop μ-loop
-element-write-r c = search needs
-
-cable-inductance-requires : tie.Need-cable-inductance-requires Inv-loop μ-loop
-cable-inductance-requires c κs = search needs
-
-mul-l : tie.Need-mul-l Inv-loop μ-loop
-mul-l c = search needs
-
-element-write-l : tie.Need-element-write-l Inv-loop μ-loop
-element-write-l c = search needs
-
-add-i : tie.Need-add-i Inv-loop μ-loop
-add-i c = search needs
-
-loop-less : tie.Need-loop-less Inv-loop μ-loop
-loop-less c = search needs
-
 loop-again : tie.Need-loop-again Inv-loop μ-loop
 loop-again c =
     let l = c .before .before .before .before in
@@ -76,18 +46,5 @@ pub read-impedances-spec : {M : Type 1} → statement M
 read-impedances-spec =
     tie.close
     (tie.spec
-    Inv-loop
-    μ-loop
-    loop-holds
-    mul-c
-    array-copy-out-c
-    cable-resistance-requires
-    mul-r
-    element-write-r
-    cable-inductance-requires
-    mul-l
-    element-write-l
-    add-i
-    loop-less
-    loop-again
-    returns)
+    Inv-loop μ-loop loop-holds (λ c. search needs) (λ c. search needs) (λ c κs. search needs) (λ c. search needs) (λ c. search needs)
+    (λ c κs. search needs) (λ c. search needs) (λ c. search needs) (λ c. search needs) (λ c. search needs) loop-again returns)

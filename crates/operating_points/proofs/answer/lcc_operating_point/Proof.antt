@@ -4,14 +4,8 @@ use borrow.Author.Needs.{needs}
 use Rattle.operating_points.proofs.answer.lcc_operating_point.Statement.{statement}
 use Rattle.operating_points.proofs.answer.lcc_operating_point.Tie as tie
 
-lcc-point-requires : tie.Need-lcc-point-requires
-lcc-point-requires c κs = search needs
-
-answered-requires : tie.Need-answered-requires
-answered-requires c κs = search needs
-
 returns : tie.Need-returns
 returns c = (c .answered .ensures .0, c .answered .ensures .1 ∙ rw (c .before .lcc-point .ensures))
 
 pub lcc-operating-point-spec : {M : Type 1} → statement M
-lcc-operating-point-spec = tie.close (tie.spec lcc-point-requires answered-requires returns)
+lcc-operating-point-spec = tie.close (tie.spec (λ c κs. search needs) (λ c κs. search needs) returns)

@@ -4,14 +4,8 @@ use borrow.Author.Needs.{needs}
 use Rattle.operating_points.proofs.answer.vsc_operating_point.Statement.{statement}
 use Rattle.operating_points.proofs.answer.vsc_operating_point.Tie as tie
 
-vsc-point-requires : tie.Need-vsc-point-requires
-vsc-point-requires c κs = search needs
-
-answered-requires : tie.Need-answered-requires
-answered-requires c κs = search needs
-
 returns : tie.Need-returns
 returns c = (c .answered .ensures .0, c .answered .ensures .1 ∙ rw (c .before .vsc-point .ensures))
 
 pub vsc-operating-point-spec : {M : Type 1} → statement M
-vsc-operating-point-spec = tie.close (tie.spec vsc-point-requires answered-requires returns)
+vsc-operating-point-spec = tie.close (tie.spec (λ c κs. search needs) (λ c κs. search needs) returns)

@@ -9,32 +9,9 @@ use Rattle.ranges.specs.Ranges.{realIn}
 use Rattle.part_checks.proofs.accepted.check_breaker.Statement.{statement}
 use Rattle.part_checks.proofs.accepted.check_breaker.Tie as tie
 
-check-breaker-type-requires : tie.Need-check-breaker-type-requires
-check-breaker-type-requires c κs = search needs
-
-whole-in-range-requires : tie.Need-whole-in-range-requires
-whole-in-range-requires c κs = search needs
-
-whole-in-range-requires-2 : tie.Need-whole-in-range-requires-2
-whole-in-range-requires-2 c κs = search needs
-
-in-range-requires : tie.Need-in-range-requires
-in-range-requires c κs = search needs
-
-in-range-requires-2 : tie.Need-in-range-requires-2
-in-range-requires-2 c κs = search needs
-
 returns : tie.Need-returns
 unfolding breakerOk realIn ofBits ofInt round
 returns c = rw (c .before .before .before .before .check-breaker-type .ensures, c .before .before .before .whole-in-range .ensures ∙ whole-is range.breakerId refl _, c .before .before .whole-in-range2 .ensures ∙ whole-is range.breakerStation refl _, c .before .in-range .ensures, c .in-range2 .ensures)
 
 pub check-breaker-spec : {M : Type 1} → statement M
-check-breaker-spec =
-    tie.close
-    (tie.spec
-    check-breaker-type-requires
-    whole-in-range-requires
-    whole-in-range-requires-2
-    in-range-requires
-    in-range-requires-2
-    returns)
+check-breaker-spec = tie.close (tie.spec (λ c κs. search needs) (λ c κs. search needs) (λ c κs. search needs) (λ c κs. search needs) (λ c κs. search needs) returns)

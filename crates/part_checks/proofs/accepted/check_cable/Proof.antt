@@ -9,27 +9,6 @@ use Rattle.ranges.specs.Ranges.{realIn}
 use Rattle.part_checks.proofs.accepted.check_cable.Statement.{statement}
 use Rattle.part_checks.proofs.accepted.check_cable.Tie as tie
 
-whole-in-range-requires : tie.Need-whole-in-range-requires
-whole-in-range-requires c κs = search needs
-
-whole-in-range-requires-2 : tie.Need-whole-in-range-requires-2
-whole-in-range-requires-2 c κs = search needs
-
-whole-in-range-requires-3 : tie.Need-whole-in-range-requires-3
-whole-in-range-requires-3 c κs = search needs
-
-in-range-requires : tie.Need-in-range-requires
-in-range-requires c κs = search needs
-
-in-range-requires-2 : tie.Need-in-range-requires-2
-in-range-requires-2 c κs = search needs
-
-in-range-requires-3 : tie.Need-in-range-requires-3
-in-range-requires-3 c κs = search needs
-
-in-range-requires-4 : tie.Need-in-range-requires-4
-in-range-requires-4 c κs = search needs
-
 returns : tie.Need-returns
 unfolding cableOk realIn ofBits ofInt round
 returns c =
@@ -45,11 +24,5 @@ pub check-cable-spec : {M : Type 1} → statement M
 check-cable-spec =
     tie.close
     (tie.spec
-    whole-in-range-requires
-    whole-in-range-requires-2
-    whole-in-range-requires-3
-    in-range-requires
-    in-range-requires-2
-    in-range-requires-3
-    in-range-requires-4
-    returns)
+    (λ c κs. search needs) (λ c κs. search needs) (λ c κs. search needs) (λ c κs. search needs) (λ c κs. search needs) (λ c κs. search needs)
+    (λ c κs. search needs) returns)

@@ -9,28 +9,9 @@ use Rattle.ranges.specs.Ranges.{realIn}
 use Rattle.part_checks.proofs.accepted.check_event.Statement.{statement}
 use Rattle.part_checks.proofs.accepted.check_event.Tie as tie
 
-whole-in-range-requires : tie.Need-whole-in-range-requires
-whole-in-range-requires c κs = search needs
-
-in-range-requires : tie.Need-in-range-requires
-in-range-requires c κs = search needs
-
-in-range-requires-2 : tie.Need-in-range-requires-2
-in-range-requires-2 c κs = search needs
-
-in-range-requires-3 : tie.Need-in-range-requires-3
-in-range-requires-3 c κs = search needs
-
 returns : tie.Need-returns
 unfolding faultOk realIn ofBits ofInt round
 returns c = rw (c .before .before .before .whole-in-range .ensures ∙ whole-is range.faultedCable refl _, c .before .before .in-range .ensures, c .before .in-range2 .ensures, c .in-range3 .ensures)
 
 pub check-event-spec : {M : Type 1} → statement M
-check-event-spec =
-    tie.close
-    (tie.spec
-    whole-in-range-requires
-    in-range-requires
-    in-range-requires-2
-    in-range-requires-3
-    returns)
+check-event-spec = tie.close (tie.spec (λ c κs. search needs) (λ c κs. search needs) (λ c κs. search needs) (λ c κs. search needs) returns)

@@ -9,28 +9,9 @@ use Rattle.ranges.specs.Ranges.{realIn}
 use Rattle.part_checks.proofs.accepted.check_order.Statement.{statement}
 use Rattle.part_checks.proofs.accepted.check_order.Tie as tie
 
-in-range-requires : tie.Need-in-range-requires
-in-range-requires c κs = search needs
-
-in-range-requires-2 : tie.Need-in-range-requires-2
-in-range-requires-2 c κs = search needs
-
-whole-in-range-requires : tie.Need-whole-in-range-requires
-whole-in-range-requires c κs = search needs
-
-whole-in-range-requires-2 : tie.Need-whole-in-range-requires-2
-whole-in-range-requires-2 c κs = search needs
-
 returns : tie.Need-returns
 unfolding orderOk realIn ofBits ofInt round
 returns c = rw (c .before .before .before .before .in-range .ensures, c .before .before .before .in-range2 .ensures, c .before .before .whole-in-range .ensures ∙ whole-is range.lowTenth refl _, c .before .whole-in-range2 .ensures ∙ whole-is range.highTenth refl _)
 
 pub check-order-spec : {M : Type 1} → statement M
-check-order-spec =
-    tie.close
-    (tie.spec
-    in-range-requires
-    in-range-requires-2
-    whole-in-range-requires
-    whole-in-range-requires-2
-    returns)
+check-order-spec = tie.close (tie.spec (λ c κs. search needs) (λ c κs. search needs) (λ c κs. search needs) (λ c κs. search needs) returns)

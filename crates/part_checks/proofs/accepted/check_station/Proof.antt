@@ -9,36 +9,6 @@ use Rattle.ranges.specs.Ranges.{realIn}
 use Rattle.part_checks.proofs.accepted.check_station.Statement.{statement}
 use Rattle.part_checks.proofs.accepted.check_station.Tie as tie
 
-check-topology-requires : tie.Need-check-topology-requires
-check-topology-requires c κs = search needs
-
-whole-in-range-requires : tie.Need-whole-in-range-requires
-whole-in-range-requires c κs = search needs
-
-in-range-requires : tie.Need-in-range-requires
-in-range-requires c κs = search needs
-
-in-range-requires-2 : tie.Need-in-range-requires-2
-in-range-requires-2 c κs = search needs
-
-in-range-requires-3 : tie.Need-in-range-requires-3
-in-range-requires-3 c κs = search needs
-
-in-range-requires-4 : tie.Need-in-range-requires-4
-in-range-requires-4 c κs = search needs
-
-in-range-requires-5 : tie.Need-in-range-requires-5
-in-range-requires-5 c κs = search needs
-
-in-range-requires-6 : tie.Need-in-range-requires-6
-in-range-requires-6 c κs = search needs
-
-in-range-requires-7 : tie.Need-in-range-requires-7
-in-range-requires-7 c κs = search needs
-
-in-range-requires-8 : tie.Need-in-range-requires-8
-in-range-requires-8 c κs = search needs
-
 returns : tie.Need-returns
 unfolding stationOk realIn ofBits ofInt round
 returns c =
@@ -57,14 +27,5 @@ pub check-station-spec : {M : Type 1} → statement M
 check-station-spec =
     tie.close
     (tie.spec
-    check-topology-requires
-    whole-in-range-requires
-    in-range-requires
-    in-range-requires-2
-    in-range-requires-3
-    in-range-requires-4
-    in-range-requires-5
-    in-range-requires-6
-    in-range-requires-7
-    in-range-requires-8
-    returns)
+    (λ c κs. search needs) (λ c κs. search needs) (λ c κs. search needs) (λ c κs. search needs) (λ c κs. search needs) (λ c κs. search needs)
+    (λ c κs. search needs) (λ c κs. search needs) (λ c κs. search needs) (λ c κs. search needs) returns)

@@ -8,21 +8,6 @@ use Rattle.ranges.proofs.WholeNumbers.{whole-is}
 use Rattle.part_checks.proofs.accepted.check_topology.Statement.{statement}
 use Rattle.part_checks.proofs.accepted.check_topology.Tie as tie
 
-enum-told : tie.Need-enum-told
-enum-told c = search needs
-
-enum-told-2 : tie.Need-enum-told-2
-enum-told-2 c = search needs
-
-enum-known-topology : tie.Need-enum-known-topology
-enum-known-topology c = search needs
-
-whole-in-range-requires : tie.Need-whole-in-range-requires
-whole-in-range-requires c κs = search needs
-
-enum-told-3 : tie.Need-enum-told-3
-enum-told-3 c = search needs
-
 returns : tie.Need-returns
 unfolding topologyOk ofBits ofInt round
 returns c = ap topologyOk (sym (c .enum-told .given .1))
@@ -43,12 +28,4 @@ pub check-topology-spec : {M : Type 1} → statement M
 check-topology-spec =
     tie.close
     (tie.spec
-    enum-told
-    enum-told-2
-    enum-known-topology
-    whole-in-range-requires
-    enum-told-3
-    returns
-    returns-2
-    returns-3
-    returns-4)
+    (λ c. search needs) (λ c. search needs) (λ c. search needs) (λ c κs. search needs) (λ c. search needs) returns returns-2 returns-3 returns-4)

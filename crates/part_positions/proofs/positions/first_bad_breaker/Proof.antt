@@ -20,20 +20,11 @@ abbrev μ-loop : tie.MeasureT-loop
 long : (c : tie.Start Inv-loop μ-loop) → length (c .args .g .breakers) ≡ 32
 long c = search (needs, unmapped)
 
-present-requires : tie.Need-present-requires Inv-loop μ-loop
-present-requires c κs = search needs
-
-loop-holds : tie.Need-loop-holds Inv-loop μ-loop
-loop-holds c = search needs
-
 mul-b : tie.Need-mul-b Inv-loop μ-loop
 mul-b c = omega arith
 
 array-copy-out-b : tie.Need-array-copy-out-b Inv-loop μ-loop
 array-copy-out-b c = omega arith
-
-check-breaker-requires : tie.Need-check-breaker-requires Inv-loop μ-loop
-check-breaker-requires c κs = search needs
 
 add-i : tie.Need-add-i Inv-loop μ-loop
 add-i c = omega arith
@@ -63,15 +54,5 @@ pub first-bad-breaker-spec : {M : Type 1} → statement M
 first-bad-breaker-spec =
     tie.close
     (tie.spec
-    Inv-loop
-    μ-loop
-    present-requires
-    loop-holds
-    mul-b
-    array-copy-out-b
-    check-breaker-requires
-    add-i
-    loop-less
-    loop-again
-    returns
+    Inv-loop μ-loop (λ c κs. search needs) (λ c. search needs) mul-b array-copy-out-b (λ c κs. search needs) add-i loop-less loop-again returns
     returns-2)

@@ -20,20 +20,11 @@ abbrev μ-loop : tie.MeasureT-loop
 long : (c : tie.Start Inv-loop μ-loop) → length (c .args .g .cables) ≡ 64
 long c = search (needs, unmapped)
 
-present-requires : tie.Need-present-requires Inv-loop μ-loop
-present-requires c κs = search needs
-
-loop-holds : tie.Need-loop-holds Inv-loop μ-loop
-loop-holds c = search needs
-
 mul-c : tie.Need-mul-c Inv-loop μ-loop
 mul-c c = omega arith
 
 array-copy-out-c : tie.Need-array-copy-out-c Inv-loop μ-loop
 array-copy-out-c c = omega arith
-
-check-cable-requires : tie.Need-check-cable-requires Inv-loop μ-loop
-check-cable-requires c κs = search needs
 
 add-i : tie.Need-add-i Inv-loop μ-loop
 add-i c = omega arith
@@ -63,15 +54,5 @@ pub first-bad-cable-spec : {M : Type 1} → statement M
 first-bad-cable-spec =
     tie.close
     (tie.spec
-    Inv-loop
-    μ-loop
-    present-requires
-    loop-holds
-    mul-c
-    array-copy-out-c
-    check-cable-requires
-    add-i
-    loop-less
-    loop-again
-    returns
+    Inv-loop μ-loop (λ c κs. search needs) (λ c. search needs) mul-c array-copy-out-c (λ c κs. search needs) add-i loop-less loop-again returns
     returns-2)

@@ -20,20 +20,11 @@ abbrev μ-loop : tie.MeasureT-loop
 long : (c : tie.Start Inv-loop μ-loop) → length (c .args .g .stations) ≡ 32
 long c = search (needs, unmapped)
 
-present-requires : tie.Need-present-requires Inv-loop μ-loop
-present-requires c κs = search needs
-
-loop-holds : tie.Need-loop-holds Inv-loop μ-loop
-loop-holds c = search needs
-
 mul-s : tie.Need-mul-s Inv-loop μ-loop
 mul-s c = omega arith
 
 array-copy-out-s : tie.Need-array-copy-out-s Inv-loop μ-loop
 array-copy-out-s c = omega arith
-
-check-station-requires : tie.Need-check-station-requires Inv-loop μ-loop
-check-station-requires c κs = search needs
 
 add-i : tie.Need-add-i Inv-loop μ-loop
 add-i c = omega arith
@@ -63,15 +54,5 @@ pub first-bad-station-spec : {M : Type 1} → statement M
 first-bad-station-spec =
     tie.close
     (tie.spec
-    Inv-loop
-    μ-loop
-    present-requires
-    loop-holds
-    mul-s
-    array-copy-out-s
-    check-station-requires
-    add-i
-    loop-less
-    loop-again
-    returns
+    Inv-loop μ-loop (λ c κs. search needs) (λ c. search needs) mul-s array-copy-out-s (λ c κs. search needs) add-i loop-less loop-again returns
     returns-2)

@@ -13,23 +13,11 @@ use borrow.Author.Needs.{needs}
 use Rattle.power_flow.proofs.flow.solution_at.Statement.{statement}
 use Rattle.power_flow.proofs.flow.solution_at.Tie as tie
 
-present-requires : tie.Need-present-requires
-present-requires c κs = search needs
-
-present-requires-2 : tie.Need-present-requires-2
-present-requires-2 c κs = search needs
-
 cable-losses-requires : tie.Need-cable-losses-requires
 unfolding blank
 cable-losses-requires c κs =
     let k = c .before .before .before .before .before .before in
     (omega (arith, k .present2 .ensures), omega (arith, k .before .present .ensures), refl)
-
-sum-losses-requires : tie.Need-sum-losses-requires
-sum-losses-requires c κs = search needs
-
-operating-points-requires : tie.Need-operating-points-requires
-operating-points-requires c κs = search needs
 
 returns : tie.Need-returns
 unfolding solutionAt totalLosses
@@ -52,12 +40,4 @@ returns c =
     rw (l .cable-losses .ensures, points, total, sum, k .present2 .ensures, n .present .ensures)
 
 pub solution-at-spec : {M : Type 1} → statement M
-solution-at-spec =
-    tie.close
-    (tie.spec
-    present-requires
-    present-requires-2
-    cable-losses-requires
-    sum-losses-requires
-    operating-points-requires
-    returns)
+solution-at-spec = tie.close (tie.spec (λ c κs. search needs) (λ c κs. search needs) cable-losses-requires (λ c κs. search needs) (λ c κs. search needs) returns)

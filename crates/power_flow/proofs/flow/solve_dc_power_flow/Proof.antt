@@ -7,15 +7,6 @@ use borrow.Author.Needs.{needs}
 use Rattle.power_flow.proofs.flow.solve_dc_power_flow.Statement.{statement}
 use Rattle.power_flow.proofs.flow.solve_dc_power_flow.Tie as tie
 
-check-flow-requires : tie.Need-check-flow-requires
-check-flow-requires c κs = search needs
-
-number-requires : tie.Need-number-requires
-number-requires c κs = search needs
-
-find-with-currents-requires : tie.Need-find-with-currents-requires
-find-with-currents-requires c κs = search needs
-
 solution-at-requires : tie.Need-solution-at-requires
 solution-at-requires c κs = let f = c .find-with-currents .ensures in rw (f .0) (f .1)
 
@@ -27,9 +18,6 @@ returns c =
       k .check-flow .ensures,
       c .solution-at .ensures ∙ rw (c .before .find-with-currents .ensures .0, yes (flowRefusal (k .before .args .g)) 0 (i .before .number .ensures ∙ k .check-flow .ensures) (i .if1 .taken)),
     )
-
-no-solution-requires : tie.Need-no-solution-requires
-no-solution-requires c κs = search needs
 
 returns-2 : tie.Need-returns-2
 unfolding flowAnswer
@@ -43,10 +31,4 @@ pub solve-dc-power-flow-spec : {M : Type 1} → statement M
 solve-dc-power-flow-spec =
     tie.close
     (tie.spec
-    check-flow-requires
-    number-requires
-    find-with-currents-requires
-    solution-at-requires
-    returns
-    no-solution-requires
-    returns-2)
+    (λ c κs. search needs) (λ c κs. search needs) (λ c κs. search needs) solution-at-requires returns (λ c κs. search needs) returns-2)

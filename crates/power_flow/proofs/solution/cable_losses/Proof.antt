@@ -26,27 +26,6 @@ long c = search (needs, unmapped)
 loop-holds : tie.Need-loop-holds Inv-loop μ-loop
 loop-holds c = (omega arith, rw (c .pre .2) (upto-none _ _))
 
-mul-c : tie.Need-mul-c Inv-loop μ-loop
-mul-c c = search needs
-
-array-copy-out-c : tie.Need-array-copy-out-c Inv-loop μ-loop
-array-copy-out-c c = search needs
-
-cable-loss-requires : tie.Need-cable-loss-requires Inv-loop μ-loop
-cable-loss-requires c κs = search needs
-
-mul-losses : tie.Need-mul-losses Inv-loop μ-loop
-mul-losses c = search needs
-
-element-write-losses : tie.Need-element-write-losses Inv-loop μ-loop
-element-write-losses c = search needs
-
-add-i : tie.Need-add-i Inv-loop μ-loop
-add-i c = search needs
-
-loop-less : tie.Need-loop-less Inv-loop μ-loop
-loop-less c = search needs
-
 loop-again : tie.Need-loop-again Inv-loop μ-loop
 loop-again c =
     let l = c .before .before .before in
@@ -63,15 +42,5 @@ pub cable-losses-spec : {M : Type 1} → statement M
 cable-losses-spec =
     tie.close
     (tie.spec
-    Inv-loop
-    μ-loop
-    loop-holds
-    mul-c
-    array-copy-out-c
-    cable-loss-requires
-    mul-losses
-    element-write-losses
-    add-i
-    loop-less
-    loop-again
-    returns)
+    Inv-loop μ-loop loop-holds (λ c. search needs) (λ c. search needs) (λ c κs. search needs) (λ c. search needs) (λ c. search needs)
+    (λ c. search needs) (λ c. search needs) loop-again returns)

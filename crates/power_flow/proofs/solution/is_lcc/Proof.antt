@@ -5,18 +5,6 @@ use borrow.Author.Needs.{needs}
 use Rattle.power_flow.proofs.solution.is_lcc.Statement.{statement}
 use Rattle.power_flow.proofs.solution.is_lcc.Tie as tie
 
-enum-told : tie.Need-enum-told
-enum-told c = search needs
-
-enum-told-2 : tie.Need-enum-told-2
-enum-told-2 c = search needs
-
-enum-known-topology : tie.Need-enum-known-topology
-enum-known-topology c = search needs
-
-enum-told-3 : tie.Need-enum-told-3
-enum-told-3 c = search needs
-
 returns : tie.Need-returns
 unfolding isLcc
 returns c = ap isLcc (sym (c .enum-told .given .1))
@@ -34,14 +22,4 @@ unfolding isLcc
 returns-4 c = ap isLcc (sym (c .enum-told3 .given .1))
 
 pub is-lcc-spec : {M : Type 1} → statement M
-is-lcc-spec =
-    tie.close
-    (tie.spec
-    enum-told
-    enum-told-2
-    enum-known-topology
-    enum-told-3
-    returns
-    returns-2
-    returns-3
-    returns-4)
+is-lcc-spec = tie.close (tie.spec (λ c. search needs) (λ c. search needs) (λ c. search needs) (λ c. search needs) returns returns-2 returns-3 returns-4)

@@ -24,48 +24,12 @@ Inv-loop v currents n losses stations points₀ total₀ i₀ points total i = (
 abbrev μ-loop : tie.MeasureT-loop
 μ-loop v currents n losses stations points₀ total₀ i₀ points total i = n - i
 
-no-point-requires : tie.Need-no-point-requires Inv-loop μ-loop
-no-point-requires c κs = search needs
-
 long : (c : tie.Start Inv-loop μ-loop) → length (c .args .t1) ≡ 32
 long c = search (needs, unmapped)
 
 loop-holds : tie.Need-loop-holds Inv-loop μ-loop
 unfolding blank
 loop-holds c = (omega arith, rw (c .no-point .ensures) (upto-none _ _), refl)
-
-mul-s : tie.Need-mul-s Inv-loop μ-loop
-mul-s c = search needs
-
-array-copy-out-s : tie.Need-array-copy-out-s Inv-loop μ-loop
-array-copy-out-s c = search needs
-
-mul-operating-point : tie.Need-mul-operating-point Inv-loop μ-loop
-mul-operating-point c = search needs
-
-element-copy-out-operating-point : tie.Need-element-copy-out-operating-point Inv-loop μ-loop
-element-copy-out-operating-point c = search needs
-
-mul-operating-point-2 : tie.Need-mul-operating-point-2 Inv-loop μ-loop
-mul-operating-point-2 c = search needs
-
-element-copy-out-operating-point-2 : tie.Need-element-copy-out-operating-point-2 Inv-loop μ-loop
-element-copy-out-operating-point-2 c = search needs
-
-operating-point-requires : tie.Need-operating-point-requires Inv-loop μ-loop
-operating-point-requires c κs = search needs
-
-mul-points : tie.Need-mul-points Inv-loop μ-loop
-mul-points c = search needs
-
-array-set-from-points : tie.Need-array-set-from-points Inv-loop μ-loop
-array-set-from-points c = search needs
-
-add-i : tie.Need-add-i Inv-loop μ-loop
-add-i c = search needs
-
-loop-less : tie.Need-loop-less Inv-loop μ-loop
-loop-less c = search needs
 
 loop-again : tie.Need-loop-again Inv-loop μ-loop
 loop-again c =
@@ -89,20 +53,6 @@ pub operating-points-spec : {M : Type 1} → statement M
 operating-points-spec =
     tie.close
     (tie.spec
-    Inv-loop
-    μ-loop
-    no-point-requires
-    loop-holds
-    mul-s
-    array-copy-out-s
-    mul-operating-point
-    element-copy-out-operating-point
-    mul-operating-point-2
-    element-copy-out-operating-point-2
-    operating-point-requires
-    mul-points
-    array-set-from-points
-    add-i
-    loop-less
-    loop-again
-    returns)
+    Inv-loop μ-loop (λ c κs. search needs) loop-holds (λ c. search needs) (λ c. search needs) (λ c. search needs) (λ c. search needs)
+    (λ c. search needs) (λ c. search needs) (λ c κs. search needs) (λ c. search needs) (λ c. search needs) (λ c. search needs) (λ c. search needs)
+    loop-again returns)

@@ -3,12 +3,6 @@ use borrow.Author.Tests.{eq-eqb, ne-eqb}
 use Rattle.printed_numbers.proofs.printed.glyph.Statement.{statement}
 use Rattle.printed_numbers.proofs.printed.glyph.Tie as tie
 
-cast-result : tie.Need-cast-result
-cast-result c = search needs
-
-add-result : tie.Need-add-result
-add-result c = search needs
-
 returns : tie.Need-returns
 returns c = simp (eq-eqb _ _ (c .if1 .taken))
 
@@ -16,4 +10,4 @@ returns-2 : tie.Need-returns-2
 returns-2 c = simp (ne-eqb _ _ (c .if1 .left))
 
 pub glyph-spec : {M : Type 1} → statement M
-glyph-spec = tie.close (tie.spec cast-result add-result returns returns-2)
+glyph-spec = tie.close (tie.spec (λ c. search needs) (λ c. search needs) returns returns-2)

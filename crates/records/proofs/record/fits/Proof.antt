@@ -27,18 +27,6 @@ returns-4 c =
     let a = s .before .before .args in
     past-the-end (a .counts) (a .at) (a .len) (s .if1 .left) (m .if2 .left) (b .if3 .left) (omega (arith, c .if4 .taken))
 
-add-if5 : tie.Need-add-if5
-add-if5 c = search needs
-
-add-if5-2 : tie.Need-add-if5-2
-add-if5-2 c = search needs
-
-add-if5-3 : tie.Need-add-if5-3
-add-if5-3 c = search needs
-
-add-if5-4 : tie.Need-add-if5-4
-add-if5-4 c = search needs
-
 returns-5 : tie.Need-returns-5
 returns-5 c =
     let e = c .before .before .before .before .before in
@@ -58,16 +46,4 @@ returns-6 c =
     sym (fitting (a .counts) (a .at) (a .len) (record { stations = s .if1 .left; cables = m .if2 .left; breakers = b .if3 .left }) (omega (arith, c .if5 .left, e .if4 .left)))
 
 pub fits-spec : {M : Type 1} → statement M
-fits-spec =
-    tie.close
-    (tie.spec
-    returns
-    returns-2
-    returns-3
-    returns-4
-    add-if5
-    add-if5-2
-    add-if5-3
-    add-if5-4
-    returns-5
-    returns-6)
+fits-spec = tie.close (tie.spec returns returns-2 returns-3 returns-4 (λ c. search needs) (λ c. search needs) (λ c. search needs) (λ c. search needs) returns-5 returns-6)

@@ -24,35 +24,11 @@ loop-holds : tie.Need-loop-holds Inv-loop μ-loop
 unfolding tab
 loop-holds c = (omega arith, refl, refl)
 
-element-copy-out-closed-number : tie.Need-element-copy-out-closed-number Inv-loop μ-loop
-element-copy-out-closed-number c = search needs
-
-closed-number-requires : tie.Need-closed-number-requires Inv-loop μ-loop
-closed-number-requires c κs = search needs
-
-add-records : tie.Need-add-records Inv-loop μ-loop
-add-records c = search needs
-
-mul-records : tie.Need-mul-records Inv-loop μ-loop
-mul-records c = search needs
-
-slice-write-records : tie.Need-slice-write-records Inv-loop μ-loop
-slice-write-records c = search needs
-
-add-i : tie.Need-add-i Inv-loop μ-loop
-add-i c = search needs
-
-loop-less : tie.Need-loop-less Inv-loop μ-loop
-loop-less c = search needs
-
 loop-again : tie.Need-loop-again Inv-loop μ-loop
 loop-again c =
     let l = c .before .before .before in
     let a = l .before .before .args in
     (omega arith, simp length-set (l .loop .inv .1), sets-more (λ k. closedNumber (getD (a .breakers .now) k false)) (a .records .now) (a .at) (l .loop .i) (l .loop .inv .2) (c .closed-number .ensures))
-
-same-length : tie.Need-same-length Inv-loop μ-loop
-same-length c = search needs
 
 returns : tie.Need-returns Inv-loop μ-loop
 returns c =
@@ -63,16 +39,5 @@ pub put-breakers-spec : {M : Type 1} → statement M
 put-breakers-spec =
     tie.close
     (tie.spec
-    Inv-loop
-    μ-loop
-    loop-holds
-    element-copy-out-closed-number
-    closed-number-requires
-    add-records
-    mul-records
-    slice-write-records
-    add-i
-    loop-less
-    loop-again
-    same-length
-    returns)
+    Inv-loop μ-loop loop-holds (λ c. search needs) (λ c κs. search needs) (λ c. search needs) (λ c. search needs) (λ c. search needs)
+    (λ c. search needs) (λ c. search needs) loop-again (λ c. search needs) returns)

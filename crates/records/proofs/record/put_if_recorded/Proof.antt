@@ -8,9 +8,6 @@ use borrow.Author.Needs.{needs}
 use Rattle.records.proofs.record.put_if_recorded.Statement.{statement}
 use Rattle.records.proofs.record.put_if_recorded.Tie as tie
 
-fits-requires : tie.Need-fits-requires
-fits-requires c κs = search needs
-
 put-record-requires : tie.Need-put-record-requires
 put-record-requires c κs =
     let i = c .before in
@@ -31,5 +28,4 @@ returns-2 : tie.Need-returns-2
 returns-2 c = let t = rw (c .before .fits2 .ensures) at (c .if1 .left) in (rw t, rw t)
 
 pub put-if-recorded-spec : {M : Type 1} → statement M
-put-if-recorded-spec =
-    tie.close (tie.spec fits-requires put-record-requires same-length returns returns-2)
+put-if-recorded-spec = tie.close (tie.spec (λ c κs. search needs) put-record-requires same-length returns returns-2)

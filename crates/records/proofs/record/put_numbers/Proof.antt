@@ -22,38 +22,11 @@ loop-holds : tie.Need-loop-holds Inv-loop μ-loop
 unfolding tab
 loop-holds c = (omega arith, refl, refl)
 
-add-records : tie.Need-add-records Inv-loop μ-loop
-add-records c = search needs
-
-mul-records : tie.Need-mul-records Inv-loop μ-loop
-mul-records c = search needs
-
-shared-slice-read-records : tie.Need-shared-slice-read-records Inv-loop μ-loop
-shared-slice-read-records c = search needs
-
-add-records-2 : tie.Need-add-records-2 Inv-loop μ-loop
-add-records-2 c = search needs
-
-mul-records-2 : tie.Need-mul-records-2 Inv-loop μ-loop
-mul-records-2 c = search needs
-
-slice-write-records : tie.Need-slice-write-records Inv-loop μ-loop
-slice-write-records c = search needs
-
-add-i : tie.Need-add-i Inv-loop μ-loop
-add-i c = search needs
-
-loop-less : tie.Need-loop-less Inv-loop μ-loop
-loop-less c = search needs
-
 loop-again : tie.Need-loop-again Inv-loop μ-loop
 loop-again c =
     let l = c .before .before in
     let a = l .before .args in
     (omega arith, simp length-set (l .loop .inv .1), sets-more (λ k. of (a .numbers .now) (a .first + k)) (a .records .now) (a .at) (l .loop .i) (l .loop .inv .2) refl)
-
-same-length : tie.Need-same-length Inv-loop μ-loop
-same-length c = search needs
 
 returns : tie.Need-returns Inv-loop μ-loop
 returns c =
@@ -64,17 +37,5 @@ pub put-numbers-spec : {M : Type 1} → statement M
 put-numbers-spec =
     tie.close
     (tie.spec
-    Inv-loop
-    μ-loop
-    loop-holds
-    add-records
-    mul-records
-    shared-slice-read-records
-    add-records-2
-    mul-records-2
-    slice-write-records
-    add-i
-    loop-less
-    loop-again
-    same-length
-    returns)
+    Inv-loop μ-loop loop-holds (λ c. search needs) (λ c. search needs) (λ c. search needs) (λ c. search needs) (λ c. search needs) (λ c. search needs)
+    (λ c. search needs) (λ c. search needs) loop-again (λ c. search needs) returns)

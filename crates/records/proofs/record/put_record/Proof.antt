@@ -45,38 +45,11 @@ after-2 c = ap length (c .put-numbers2 .ensures) ∙ simp length-sets (after-1 (
 after-3 : (c : tie.After-put-numbers3) → length (c .put-numbers3 .last .0) ≡ length (start-3 c .args .records .now)
 after-3 c = ap length (c .put-numbers3 .ensures) ∙ simp length-sets (after-2 (c .before .before .before .before .before))
 
-add-voltages : tie.Need-add-voltages
-add-voltages c = search needs
-
-add-station-currents : tie.Need-add-station-currents
-add-station-currents c = search needs
-
-add-cable-currents : tie.Need-add-cable-currents
-add-cable-currents c = search needs
-
-mul-records : tie.Need-mul-records
-mul-records c = search needs
-
-slice-write-records : tie.Need-slice-write-records
-slice-write-records c = search needs
-
-add-records : tie.Need-add-records
-add-records c = search needs
-
-mul-records-2 : tie.Need-mul-records-2
-mul-records-2 c = search needs
-
 slice-write-records-2 : tie.Need-slice-write-records-2
 slice-write-records-2 c = simp length-set (omega arith)
 
-slice-aggregate-put-numbers : tie.Need-slice-aggregate-put-numbers
-slice-aggregate-put-numbers c = search needs
-
 put-numbers-requires : tie.Need-put-numbers-requires
 put-numbers-requires c κs = let s = c .before .before .before .before .before .before in (simp length-set (omega (arith, s .pre .1)), omega (arith, long-y s, s .pre .0 .stations))
-
-slice-aggregate-put-numbers-2 : tie.Need-slice-aggregate-put-numbers-2
-slice-aggregate-put-numbers-2 c = search needs
 
 put-numbers-requires-2 : tie.Need-put-numbers-requires-2
 put-numbers-requires-2 c κs =
@@ -84,17 +57,11 @@ put-numbers-requires-2 c κs =
     let s = start-1 p in
     (omega (arith, after-1 p, s .pre .1), omega (arith, long-currents s, s .pre .0 .stations))
 
-slice-aggregate-put-numbers-3 : tie.Need-slice-aggregate-put-numbers-3
-slice-aggregate-put-numbers-3 c = search needs
-
 put-numbers-requires-3 : tie.Need-put-numbers-requires-3
 put-numbers-requires-3 c κs =
     let p = c .before .before .before .before in
     let s = start-2 p in
     (omega (arith, after-2 p, s .pre .1), omega (arith, long-y s, s .pre .0 .stations, s .pre .0 .cables))
-
-add-put-breakers : tie.Need-add-put-breakers
-add-put-breakers c = search needs
 
 put-breakers-requires : tie.Need-put-breakers-requires
 put-breakers-requires c κs =
@@ -121,21 +88,6 @@ pub put-record-spec : {M : Type 1} → statement M
 put-record-spec =
     tie.close
     (tie.spec
-    add-voltages
-    add-station-currents
-    add-cable-currents
-    mul-records
-    slice-write-records
-    add-records
-    mul-records-2
-    slice-write-records-2
-    slice-aggregate-put-numbers
-    put-numbers-requires
-    slice-aggregate-put-numbers-2
-    put-numbers-requires-2
-    slice-aggregate-put-numbers-3
-    put-numbers-requires-3
-    add-put-breakers
-    put-breakers-requires
-    same-length
-    returns)
+    (λ c. search needs) (λ c. search needs) (λ c. search needs) (λ c. search needs) (λ c. search needs) (λ c. search needs) (λ c. search needs)
+    slice-write-records-2 (λ c. search needs) put-numbers-requires (λ c. search needs) put-numbers-requires-2 (λ c. search needs)
+    put-numbers-requires-3 (λ c. search needs) put-breakers-requires same-length returns)

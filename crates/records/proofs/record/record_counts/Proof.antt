@@ -10,20 +10,10 @@ use Rattle.records.proofs.record.record_counts.Tie as tie
 counts : {s c b s′ c′ b′ : ℕ} → s ≡ s′ → c ≡ c′ → b ≡ b′ → _≡_ {A = RecordCounts} (record { stations = s; cables = c; breakers = b }) (record { stations = s′; cables = c′; breakers = b′ })
 counts p q r = λ i. record { stations = p i; cables = q i; breakers = r i }
 
-present-requires : tie.Need-present-requires
-present-requires c κs = search needs
-
-present-requires-2 : tie.Need-present-requires-2
-present-requires-2 c κs = search needs
-
-present-requires-3 : tie.Need-present-requires-3
-present-requires-3 c κs = search needs
-
 returns : tie.Need-returns
 returns c =
     let a = c .before .before .before .args in
     counts (length-cut (a .g .stations) _ 32 _ (search (needs, unmapped)) (c .before .before .present .ensures)) (length-cut (a .g .cables) _ 64 _ (search (needs, unmapped)) (c .before .present2 .ensures)) (length-cut (a .g .breakers) _ 32 _ (search (needs, unmapped)) (c .present3 .ensures))
 
 pub record-counts-spec : {M : Type 1} → statement M
-record-counts-spec =
-    tie.close (tie.spec present-requires present-requires-2 present-requires-3 returns)
+record-counts-spec = tie.close (tie.spec (λ c κs. search needs) (λ c κs. search needs) (λ c κs. search needs) returns)

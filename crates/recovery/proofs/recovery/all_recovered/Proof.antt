@@ -24,32 +24,8 @@ Inv-loop y rated n-stations n i₀ i = (i ≤ n) × (some i (behind y rated) ≡
 abbrev μ-loop : tie.MeasureT-loop
 μ-loop y rated n-stations n i₀ i = n - i
 
-present-requires : tie.Need-present-requires Inv-loop μ-loop
-present-requires c κs = search needs
-
 loop-holds : tie.Need-loop-holds Inv-loop μ-loop
 loop-holds c = (omega arith, refl)
-
-mul-has-recovered : tie.Need-mul-has-recovered Inv-loop μ-loop
-mul-has-recovered c = search needs
-
-element-copy-out-has-recovered : tie.Need-element-copy-out-has-recovered Inv-loop μ-loop
-element-copy-out-has-recovered c = search needs
-
-mul-has-recovered-2 : tie.Need-mul-has-recovered-2 Inv-loop μ-loop
-mul-has-recovered-2 c = search needs
-
-element-copy-out-has-recovered-2 : tie.Need-element-copy-out-has-recovered-2 Inv-loop μ-loop
-element-copy-out-has-recovered-2 c = search needs
-
-has-recovered-requires : tie.Need-has-recovered-requires Inv-loop μ-loop
-has-recovered-requires c κs = search needs
-
-add-i : tie.Need-add-i Inv-loop μ-loop
-add-i c = search needs
-
-loop-less : tie.Need-loop-less Inv-loop μ-loop
-loop-less c = search needs
 
 loop-again : tie.Need-loop-again Inv-loop μ-loop
 loop-again c =
@@ -75,17 +51,5 @@ pub all-recovered-spec : {M : Type 1} → statement M
 all-recovered-spec =
     tie.close
     (tie.spec
-    Inv-loop
-    μ-loop
-    present-requires
-    loop-holds
-    mul-has-recovered
-    element-copy-out-has-recovered
-    mul-has-recovered-2
-    element-copy-out-has-recovered-2
-    has-recovered-requires
-    add-i
-    loop-less
-    loop-again
-    returns
-    returns-2)
+    Inv-loop μ-loop (λ c κs. search needs) loop-holds (λ c. search needs) (λ c. search needs) (λ c. search needs) (λ c. search needs)
+    (λ c κs. search needs) (λ c. search needs) (λ c. search needs) loop-again returns returns-2)

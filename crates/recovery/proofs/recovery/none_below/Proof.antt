@@ -23,23 +23,8 @@ Inv-loop y rated n-stations n i₀ i = (i ≤ n) × (some i (below y rated) ≡ 
 abbrev μ-loop : tie.MeasureT-loop
 μ-loop y rated n-stations n i₀ i = n - i
 
-present-requires : tie.Need-present-requires Inv-loop μ-loop
-present-requires c κs = search needs
-
 loop-holds : tie.Need-loop-holds Inv-loop μ-loop
 loop-holds c = (omega arith, refl)
-
-mul-if1 : tie.Need-mul-if1 Inv-loop μ-loop
-mul-if1 c = search needs
-
-element-copy-out-if1 : tie.Need-element-copy-out-if1 Inv-loop μ-loop
-element-copy-out-if1 c = search needs
-
-mul-if1-2 : tie.Need-mul-if1-2 Inv-loop μ-loop
-mul-if1-2 c = search needs
-
-element-copy-out-if1-2 : tie.Need-element-copy-out-if1-2 Inv-loop μ-loop
-element-copy-out-if1-2 c = search needs
 
 returns : tie.Need-returns Inv-loop μ-loop
 returns c =
@@ -47,12 +32,6 @@ returns c =
     let p = l .before in
     let a = p .before .args in
     rw (← p .present .ensures) (ap not (sym (some-found (below (a .y .now) (a .rated .now)) (p .present .result) (l .loop .i) (c .before .before .before .loop-test .taken) (ap (λ (b : Bool). not (not b)) (c .if1 .taken)))))
-
-add-i : tie.Need-add-i Inv-loop μ-loop
-add-i c = search needs
-
-loop-less : tie.Need-loop-less Inv-loop μ-loop
-loop-less c = search needs
 
 loop-again : tie.Need-loop-again Inv-loop μ-loop
 loop-again c =
@@ -71,16 +50,5 @@ pub none-below-spec : {M : Type 1} → statement M
 none-below-spec =
     tie.close
     (tie.spec
-    Inv-loop
-    μ-loop
-    present-requires
-    loop-holds
-    mul-if1
-    element-copy-out-if1
-    mul-if1-2
-    element-copy-out-if1-2
-    returns
-    add-i
-    loop-less
-    loop-again
-    returns-2)
+    Inv-loop μ-loop (λ c κs. search needs) loop-holds (λ c. search needs) (λ c. search needs) (λ c. search needs) (λ c. search needs) returns
+    (λ c. search needs) (λ c. search needs) loop-again returns-2)

@@ -18,38 +18,8 @@ Inv-loop y₀ rated n-stations n i₀ y i = (i ≤ n) × (y ≡ upto i (λ k. re
 abbrev μ-loop : tie.MeasureT-loop
 μ-loop y₀ rated n-stations n i₀ y i = n - i
 
-present-requires : tie.Need-present-requires Inv-loop μ-loop
-present-requires c κs = search needs
-
 loop-holds : tie.Need-loop-holds Inv-loop μ-loop
 loop-holds c = (omega arith, upto-none _ _)
-
-mul-recovered : tie.Need-mul-recovered Inv-loop μ-loop
-mul-recovered c = search needs
-
-element-copy-out-recovered : tie.Need-element-copy-out-recovered Inv-loop μ-loop
-element-copy-out-recovered c = search needs
-
-mul-recovered-2 : tie.Need-mul-recovered-2 Inv-loop μ-loop
-mul-recovered-2 c = search needs
-
-element-copy-out-recovered-2 : tie.Need-element-copy-out-recovered-2 Inv-loop μ-loop
-element-copy-out-recovered-2 c = search needs
-
-recovered-requires : tie.Need-recovered-requires Inv-loop μ-loop
-recovered-requires c κs = search needs
-
-mul-y : tie.Need-mul-y Inv-loop μ-loop
-mul-y c = search needs
-
-element-write-y : tie.Need-element-write-y Inv-loop μ-loop
-element-write-y c = search needs
-
-add-i : tie.Need-add-i Inv-loop μ-loop
-add-i c = search needs
-
-loop-less : tie.Need-loop-less Inv-loop μ-loop
-loop-less c = search needs
 
 loop-again : tie.Need-loop-again Inv-loop μ-loop
 loop-again c =
@@ -70,18 +40,5 @@ pub recover-voltages-spec : {M : Type 1} → statement M
 recover-voltages-spec =
     tie.close
     (tie.spec
-    Inv-loop
-    μ-loop
-    present-requires
-    loop-holds
-    mul-recovered
-    element-copy-out-recovered
-    mul-recovered-2
-    element-copy-out-recovered-2
-    recovered-requires
-    mul-y
-    element-write-y
-    add-i
-    loop-less
-    loop-again
-    returns)
+    Inv-loop μ-loop (λ c κs. search needs) loop-holds (λ c. search needs) (λ c. search needs) (λ c. search needs) (λ c. search needs)
+    (λ c κs. search needs) (λ c. search needs) (λ c. search needs) (λ c. search needs) (λ c. search needs) loop-again returns)

@@ -11,17 +11,8 @@ use Rattle.replay.proofs.studies.numbers_of.Tie as tie
 product-fits : (a b : ℕ) → a ≤ 4096 → b ≤ 4096 → Fits w64 (a * b)
 product-fits a b p q = record { fits = lt-of-le-of-lt (le-trans (mul-le-mul-right b p) (mul-le-mul-left 4096 q)) (lit< tt) }
 
-cut-requires : tie.Need-cut-requires
-cut-requires c κs = search needs
-
-cut-requires-2 : tie.Need-cut-requires-2
-cut-requires-2 c κs = search needs
-
 mul-result : tie.Need-mul-result
 mul-result c = search (needs, product-fits)
 
-returns : tie.Need-returns
-returns c = search needs
-
 pub numbers-of-spec : {M : Type 1} → statement M
-numbers-of-spec = tie.close (tie.spec cut-requires cut-requires-2 mul-result returns)
+numbers-of-spec = tie.close (tie.spec (λ c κs. search needs) (λ c κs. search needs) mul-result (λ c. search needs))

@@ -6,15 +6,9 @@ use Rattle.rule_tests.specs.Rules.{cableOutside}
 use Rattle.rule_tests.proofs.tests.cable_outside.Statement.{statement}
 use Rattle.rule_tests.proofs.tests.cable_outside.Tie as tie
 
-first-bad-cable-requires : tie.Need-first-bad-cable-requires
-first-bad-cable-requires c κs = search needs
-
-present-requires : tie.Need-present-requires
-present-requires c κs = search needs
-
 returns : tie.Need-returns
 unfolding cableOutside
 returns c = stops-short cableOk (c .before .before .args .g .cables) _ 64 _ _ (search (needs, unmapped)) (c .before .first-bad-cable .ensures) (c .present .ensures)
 
 pub cable-outside-spec : {M : Type 1} → statement M
-cable-outside-spec = tie.close (tie.spec first-bad-cable-requires present-requires returns)
+cable-outside-spec = tie.close (tie.spec (λ c κs. search needs) (λ c κs. search needs) returns)

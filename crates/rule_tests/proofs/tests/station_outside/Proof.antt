@@ -6,15 +6,9 @@ use Rattle.rule_tests.specs.Rules.{stationOutside}
 use Rattle.rule_tests.proofs.tests.station_outside.Statement.{statement}
 use Rattle.rule_tests.proofs.tests.station_outside.Tie as tie
 
-first-bad-station-requires : tie.Need-first-bad-station-requires
-first-bad-station-requires c κs = search needs
-
-present-requires : tie.Need-present-requires
-present-requires c κs = search needs
-
 returns : tie.Need-returns
 unfolding stationOutside
 returns c = stops-short stationOk (c .before .before .args .g .stations) _ 32 _ _ (search (needs, unmapped)) (c .before .first-bad-station .ensures) (c .present .ensures)
 
 pub station-outside-spec : {M : Type 1} → statement M
-station-outside-spec = tie.close (tie.spec first-bad-station-requires present-requires returns)
+station-outside-spec = tie.close (tie.spec (λ c κs. search needs) (λ c κs. search needs) returns)

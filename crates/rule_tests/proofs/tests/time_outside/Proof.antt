@@ -6,15 +6,9 @@ use Rattle.ranges.specs.Ranges.{realIn}
 use Rattle.rule_tests.proofs.tests.time_outside.Statement.{statement}
 use Rattle.rule_tests.proofs.tests.time_outside.Tie as tie
 
-in-range-requires : tie.Need-in-range-requires
-in-range-requires c κs = search needs
-
-in-range-requires-2 : tie.Need-in-range-requires-2
-in-range-requires-2 c κs = search needs
-
 returns : tie.Need-returns
 unfolding timeOutside realIn ofBits ofInt round
 returns c = rw (c .before .in-range .ensures, c .in-range2 .ensures)
 
 pub time-outside-spec : {M : Type 1} → statement M
-time-outside-spec = tie.close (tie.spec in-range-requires in-range-requires-2 returns)
+time-outside-spec = tie.close (tie.spec (λ c κs. search needs) (λ c κs. search needs) returns)

@@ -5,12 +5,9 @@ use Rattle.timing.proofs.Stepping.{limit-kept}
 use Rattle.rule_tests.proofs.tests.too_many_steps.Statement.{statement}
 use Rattle.rule_tests.proofs.tests.too_many_steps.Tie as tie
 
-total-steps-requires : tie.Need-total-steps-requires
-total-steps-requires c κs = search needs
-
 returns : tie.Need-returns
 unfolding tooManySteps
 returns c = limit-kept _ _ (c .total-steps .ensures)
 
 pub too-many-steps-spec : {M : Type 1} → statement M
-too-many-steps-spec = tie.close (tie.spec total-steps-requires returns)
+too-many-steps-spec = tie.close (tie.spec (λ c κs. search needs) returns)

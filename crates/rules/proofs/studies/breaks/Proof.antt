@@ -5,24 +5,6 @@ use Rattle.rules.proofs.Numbered.{unbroken}
 use Rattle.rules.proofs.studies.breaks.Statement.{statement}
 use Rattle.rules.proofs.studies.breaks.Tie as tie
 
-too-many-parts-requires : tie.Need-too-many-parts-requires
-too-many-parts-requires c κs = search needs
-
-time-outside-requires : tie.Need-time-outside-requires
-time-outside-requires c κs = search needs
-
-too-many-steps-requires : tie.Need-too-many-steps-requires
-too-many-steps-requires c κs = search needs
-
-station-outside-requires : tie.Need-station-outside-requires
-station-outside-requires c κs = search needs
-
-cable-outside-requires : tie.Need-cable-outside-requires
-cable-outside-requires c κs = search needs
-
-breaker-outside-requires : tie.Need-breaker-outside-requires
-breaker-outside-requires c κs = search needs
-
 returns : tie.Need-returns
 unfolding broken
 returns c = rw (c .before .match .keys1)
@@ -66,19 +48,5 @@ pub breaks-spec : {M : Type 1} → statement M
 breaks-spec =
     tie.close
     (tie.spec
-    too-many-parts-requires
-    time-outside-requires
-    too-many-steps-requires
-    station-outside-requires
-    cable-outside-requires
-    breaker-outside-requires
-    returns
-    returns-2
-    returns-3
-    returns-4
-    returns-5
-    returns-6
-    returns-7
-    returns-8
-    returns-9
-    returns-10)
+    (λ c κs. search needs) (λ c κs. search needs) (λ c κs. search needs) (λ c κs. search needs) (λ c κs. search needs) (λ c κs. search needs) returns
+    returns-2 returns-3 returns-4 returns-5 returns-6 returns-7 returns-8 returns-9 returns-10)

@@ -6,28 +6,9 @@ use Rattle.rules.proofs.Refused.{answered}
 use Rattle.rules.proofs.studies.check_fault.Statement.{statement}
 use Rattle.rules.proofs.studies.check_fault.Tie as tie
 
-check-event-requires : tie.Need-check-event-requires
-check-event-requires c κs = search needs
-
-slice-aggregate-first-broken : tie.Need-slice-aggregate-first-broken
-slice-aggregate-first-broken c = search needs
-
-first-broken-requires : tie.Need-first-broken-requires
-first-broken-requires c κs = search needs
-
-verdict-of-requires : tie.Need-verdict-of-requires
-verdict-of-requires c κs = search needs
-
 returns : tie.Need-returns
 unfolding faultRefusal
 returns c = rw (← c .before .before .before .check-event .ensures) (answered (broken _ _) _ _ _ refl (c .before .first-broken .ensures) (c .verdict-of .ensures))
 
 pub check-fault-spec : {M : Type 1} → statement M
-check-fault-spec =
-    tie.close
-    (tie.spec
-    check-event-requires
-    slice-aggregate-first-broken
-    first-broken-requires
-    verdict-of-requires
-    returns)
+check-fault-spec = tie.close (tie.spec (λ c κs. search needs) (λ c. search needs) (λ c κs. search needs) (λ c κs. search needs) returns)

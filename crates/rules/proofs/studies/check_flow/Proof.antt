@@ -6,20 +6,9 @@ use Rattle.rules.proofs.Refused.{answered}
 use Rattle.rules.proofs.studies.check_flow.Statement.{statement}
 use Rattle.rules.proofs.studies.check_flow.Tie as tie
 
-slice-aggregate-first-broken : tie.Need-slice-aggregate-first-broken
-slice-aggregate-first-broken c = search needs
-
-first-broken-requires : tie.Need-first-broken-requires
-first-broken-requires c κs = search needs
-
-verdict-of-requires : tie.Need-verdict-of-requires
-verdict-of-requires c κs = search needs
-
 returns : tie.Need-returns
 unfolding flowRefusal
 returns c = answered (broken _ _) _ _ _ refl (c .before .first-broken .ensures) (c .verdict-of .ensures)
 
 pub check-flow-spec : {M : Type 1} → statement M
-check-flow-spec =
-    tie.close
-    (tie.spec slice-aggregate-first-broken first-broken-requires verdict-of-requires returns)
+check-flow-spec = tie.close (tie.spec (λ c. search needs) (λ c κs. search needs) (λ c κs. search needs) returns)

@@ -5,9 +5,6 @@ use borrow.Author.Needs.{needs}
 use Rattle.rules.proofs.studies.check_operating_point.Statement.{statement}
 use Rattle.rules.proofs.studies.check_operating_point.Tie as tie
 
-check-station-requires : tie.Need-check-station-requires
-check-station-requires c κs = search needs
-
 returns : tie.Need-returns
 unfolding pointRefusal numberOf
 returns c = rw (sym (c .before .check-station .ensures) ∙ c .if1 .taken)
@@ -17,4 +14,4 @@ unfolding pointRefusal numberOf
 returns-2 c = rw (sym (c .before .check-station .ensures) ∙ c .if1 .left)
 
 pub check-operating-point-spec : {M : Type 1} → statement M
-check-operating-point-spec = tie.close (tie.spec check-station-requires returns returns-2)
+check-operating-point-spec = tie.close (tie.spec (λ c κs. search needs) returns returns-2)

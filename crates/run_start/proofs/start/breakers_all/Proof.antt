@@ -16,21 +16,12 @@ Inv-loop n-breakers closed n breakers₀ i₀ breakers i = (i ≤ n) × (breaker
 abbrev μ-loop : tie.MeasureT-loop
 μ-loop n-breakers closed n breakers₀ i₀ breakers i = n - i
 
-present-requires : tie.Need-present-requires Inv-loop μ-loop
-present-requires c κs = search needs
-
 loop-holds : tie.Need-loop-holds Inv-loop μ-loop
 unfolding blank
 loop-holds c = (omega arith, upto-none _ _)
 
 array-write-breakers : tie.Need-array-write-breakers Inv-loop μ-loop
 array-write-breakers c = omega (arith, c .before .before .present .ensures)
-
-add-i : tie.Need-add-i Inv-loop μ-loop
-add-i c = search needs
-
-loop-less : tie.Need-loop-less Inv-loop μ-loop
-loop-less c = search needs
 
 loop-again : tie.Need-loop-again Inv-loop μ-loop
 loop-again c = (omega arith, upto-more _ _ _ (c .before .loop .inv .1) refl)
@@ -44,15 +35,4 @@ returns c =
     ∙ ap (λ (n : ℕ). padded 32 n (λ _. closed) false) (p .present .ensures)
 
 pub breakers-all-spec : {M : Type 1} → statement M
-breakers-all-spec =
-    tie.close
-    (tie.spec
-    Inv-loop
-    μ-loop
-    present-requires
-    loop-holds
-    array-write-breakers
-    add-i
-    loop-less
-    loop-again
-    returns)
+breakers-all-spec = tie.close (tie.spec Inv-loop μ-loop (λ c κs. search needs) loop-holds array-write-breakers (λ c. search needs) (λ c. search needs) loop-again returns)

@@ -24,30 +24,15 @@ abbrev μ-loop : tie.MeasureT-loop
 long : (c : tie.Start Inv-loop μ-loop) → length (c .args .g .stations) ≡ 32
 long c = search (needs, unmapped)
 
-present-requires : tie.Need-present-requires Inv-loop μ-loop
-present-requires c κs = search needs
-
 loop-holds : tie.Need-loop-holds Inv-loop μ-loop
 unfolding blank
 loop-holds c = (omega arith, upto-none _ _)
 
-mul-s : tie.Need-mul-s Inv-loop μ-loop
-mul-s c = search needs
-
 array-copy-out-s : tie.Need-array-copy-out-s Inv-loop μ-loop
 array-copy-out-s c = omega (arith, c .before .before .present .ensures)
 
-mul-y : tie.Need-mul-y Inv-loop μ-loop
-mul-y c = search needs
-
 array-write-y : tie.Need-array-write-y Inv-loop μ-loop
 array-write-y c = omega (arith, c .before .before .before .present .ensures)
-
-add-i : tie.Need-add-i Inv-loop μ-loop
-add-i c = search needs
-
-loop-less : tie.Need-loop-less Inv-loop μ-loop
-loop-less c = search needs
 
 loop-again : tie.Need-loop-again Inv-loop μ-loop
 loop-again c =
@@ -71,15 +56,5 @@ pub rated-voltages-spec : {M : Type 1} → statement M
 rated-voltages-spec =
     tie.close
     (tie.spec
-    Inv-loop
-    μ-loop
-    present-requires
-    loop-holds
-    mul-s
-    array-copy-out-s
-    mul-y
-    array-write-y
-    add-i
-    loop-less
-    loop-again
-    returns)
+    Inv-loop μ-loop (λ c κs. search needs) loop-holds (λ c. search needs) array-copy-out-s (λ c. search needs) array-write-y (λ c. search needs)
+    (λ c. search needs) loop-again returns)

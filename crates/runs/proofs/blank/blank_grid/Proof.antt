@@ -4,12 +4,9 @@ use borrow.Author.Needs.{needs}
 use Rattle.runs.proofs.blank.blank_grid.Statement.{statement}
 use Rattle.runs.proofs.blank.blank_grid.Tie as tie
 
-new-requires : tie.Need-new-requires
-new-requires c κs = search needs
-
 returns : tie.Need-returns
 unfolding newSimulator
 returns c = rw (c .new .ensures)
 
 pub blank-grid-spec : {M : Type 1} → statement M
-blank-grid-spec = tie.close (tie.spec new-requires returns)
+blank-grid-spec = tie.close (tie.spec (λ c κs. search needs) returns)

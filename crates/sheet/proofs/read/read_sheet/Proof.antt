@@ -8,19 +8,10 @@ use borrow.Author.Needs.{needs}
 use Rattle.sheet.proofs.read.read_sheet.Statement.{statement}
 use Rattle.sheet.proofs.read.read_sheet.Tie as tie
 
-start-requires : tie.Need-start-requires
-start-requires c κs = search needs
-
-feed-requires : tie.Need-feed-requires
-feed-requires c κs = search needs
-
-answer-requires : tie.Need-answer-requires
-answer-requires c κs = search needs
-
 returns : tie.Need-returns
 returns c =
     let text = c .before .before .before .before .args .text .now in
     c .answer .ensures ∙ ap answerOf (c .before .feed .ensures ∙ ap (λ r. foldl byteTaken r text) (c .before .before .start .ensures)) ∙ whole text
 
 pub read-sheet-spec : {M : Type 1} → statement M
-read-sheet-spec = tie.close (tie.spec start-requires feed-requires answer-requires returns)
+read-sheet-spec = tie.close (tie.spec (λ c κs. search needs) (λ c κs. search needs) (λ c κs. search needs) returns)

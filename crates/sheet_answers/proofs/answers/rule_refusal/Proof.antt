@@ -7,35 +7,14 @@ use borrow.Author.Needs.{needs}
 use Rattle.sheet_answers.proofs.answers.rule_refusal.Statement.{statement}
 use Rattle.sheet_answers.proofs.answers.rule_refusal.Tie as tie
 
-check-sweep-requires : tie.Need-check-sweep-requires
-check-sweep-requires c κs = search needs
-
-number-requires : tie.Need-number-requires
-number-requires c κs = search needs
-
-line-rule-requires : tie.Need-line-rule-requires
-line-rule-requires c κs = search needs
-
 returns : tie.Need-returns
 returns c = late-rule _ _ (c .before .before .number .ensures ∙ c .before .before .before .check-sweep .ensures) (λ l. c .before .if1 .taken) _ (c .line-rule .ensures ∙ ap (lineRule _) (sym (c .before .if1 .taken)))
 
 returns-2 : tie.Need-returns-2
 returns-2 c = early-rule _ _ (c .before .before .number .ensures ∙ c .before .before .before .check-sweep .ensures) (c .before .if1 .left) (c .if2 .taken)
 
-line-rule-requires-2 : tie.Need-line-rule-requires-2
-line-rule-requires-2 c κs = search needs
-
 returns-3 : tie.Need-returns-3
 returns-3 c = late-rule _ _ (c .before .before .before .number .ensures ∙ c .before .before .before .before .check-sweep .ensures) (λ l. absurd (omega arith)) _ (c .line-rule2 .ensures)
 
 pub rule-refusal-spec : {M : Type 1} → statement M
-rule-refusal-spec =
-    tie.close
-    (tie.spec
-    check-sweep-requires
-    number-requires
-    line-rule-requires
-    returns
-    returns-2
-    line-rule-requires-2
-    returns-3)
+rule-refusal-spec = tie.close (tie.spec (λ c κs. search needs) (λ c κs. search needs) (λ c κs. search needs) returns returns-2 (λ c κs. search needs) returns-3)

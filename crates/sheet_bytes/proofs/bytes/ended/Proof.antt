@@ -8,11 +8,8 @@ use Rattle.sheet_bytes.proofs.bytes.ended.Tie as tie
 returns : tie.Need-returns
 returns c = ended-empty _ (c .before .if1 .taken)
 
-with-line-requires : tie.Need-with-line-requires
-with-line-requires c κs = search needs
-
 returns-2 : tie.Need-returns-2
 returns-2 c = c .with-line .ensures ∙ ended-open _ (c .before .if1 .left)
 
 pub ended-spec : {M : Type 1} → statement M
-ended-spec = tie.close (tie.spec returns with-line-requires returns-2)
+ended-spec = tie.close (tie.spec returns (λ c κs. search needs) returns-2)

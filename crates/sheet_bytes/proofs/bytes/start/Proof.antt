@@ -5,12 +5,9 @@ use borrow.Author.Needs.{needs}
 use Rattle.sheet_bytes.proofs.bytes.start.Statement.{statement}
 use Rattle.sheet_bytes.proofs.bytes.start.Tie as tie
 
-empty-sheet-requires : tie.Need-empty-sheet-requires
-empty-sheet-requires c κs = search needs
-
 returns : tie.Need-returns
 unfolding startOf
 returns c = rw (c .empty-sheet .ensures)
 
 pub start-spec : {M : Type 1} → statement M
-start-spec = tie.close (tie.spec empty-sheet-requires returns)
+start-spec = tie.close (tie.spec (λ c κs. search needs) returns)

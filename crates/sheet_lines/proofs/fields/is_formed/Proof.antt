@@ -6,34 +6,13 @@ use borrow.Author.Needs.{needs}
 use Rattle.sheet_lines.proofs.fields.is_formed.Statement.{statement}
 use Rattle.sheet_lines.proofs.fields.is_formed.Tie as tie
 
-add-end : tie.Need-add-end
-add-end c = search needs
-
-mul-end : tie.Need-mul-end
-mul-end c = search needs
-
-add-end-2 : tie.Need-add-end-2
-add-end-2 c = search needs
-
-add-if1 : tie.Need-add-if1
-add-if1 c = search needs
-
 returns : tie.Need-returns
 unfolding formed
 returns c = simp (ne-eqb _ _ (c .if1 .taken))
 
-shared-slice-read-if2 : tie.Need-shared-slice-read-if2
-shared-slice-read-if2 c = search needs
-
 returns-2 : tie.Need-returns-2
 unfolding formed
 returns-2 c = simp (eq-eqb _ _ (c .before .before .if1 .left), ne-eqb _ _ (c .if2 .taken))
-
-are-numbers-requires : tie.Need-are-numbers-requires
-are-numbers-requires c κs = search needs
-
-are-numbers-requires-2 : tie.Need-are-numbers-requires-2
-are-numbers-requires-2 c κs = search needs
 
 returns-3 : tie.Need-returns-3
 unfolding formed
@@ -47,14 +26,5 @@ pub is-formed-spec : {M : Type 1} → statement M
 is-formed-spec =
     tie.close
     (tie.spec
-    add-end
-    mul-end
-    add-end-2
-    add-if1
-    returns
-    shared-slice-read-if2
-    returns-2
-    are-numbers-requires
-    are-numbers-requires-2
-    returns-3
-    returns-4)
+    (λ c. search needs) (λ c. search needs) (λ c. search needs) (λ c. search needs) returns (λ c. search needs) returns-2 (λ c κs. search needs)
+    (λ c κs. search needs) returns-3 returns-4)

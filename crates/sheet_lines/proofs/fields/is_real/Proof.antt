@@ -12,15 +12,6 @@ mul-at c = omega arith
 add-at : tie.Need-add-at
 add-at c = omega arith
 
-real-at-requires : tie.Need-real-at-requires
-real-at-requires c κs = search needs
-
-enum-told : tie.Need-enum-told
-enum-told c = search needs
-
-enum-told-2 : tie.Need-enum-told-2
-enum-told-2 c = search needs
-
 returns : tie.Need-returns
 returns c = ap read (sym (c .enum-told2 .given .1) ∙ c .before .before .real-at .ensures)
 
@@ -28,4 +19,4 @@ returns-2 : tie.Need-returns-2
 returns-2 c = ap read (sym (c .enum-told .given .1) ∙ c .before .before .real-at .ensures)
 
 pub is-real-spec : {M : Type 1} → statement M
-is-real-spec = tie.close (tie.spec mul-at add-at real-at-requires enum-told enum-told-2 returns returns-2)
+is-real-spec = tie.close (tie.spec mul-at add-at (λ c κs. search needs) (λ c. search needs) (λ c. search needs) returns returns-2)

@@ -12,15 +12,6 @@ mul-at c = omega arith
 add-at : tie.Need-add-at
 add-at c = omega arith
 
-whole-at-requires : tie.Need-whole-at-requires
-whole-at-requires c κs = search needs
-
-enum-told : tie.Need-enum-told
-enum-told c = search needs
-
-enum-told-2 : tie.Need-enum-told-2
-enum-told-2 c = search needs
-
 returns : tie.Need-returns
 returns c = ap found (sym (c .enum-told2 .given .1) ∙ c .before .before .whole-at .ensures)
 
@@ -28,4 +19,4 @@ returns-2 : tie.Need-returns-2
 returns-2 c = ap found (sym (c .enum-told .given .1) ∙ c .before .before .whole-at .ensures)
 
 pub is-whole-spec : {M : Type 1} → statement M
-is-whole-spec = tie.close (tie.spec mul-at add-at whole-at-requires enum-told enum-told-2 returns returns-2)
+is-whole-spec = tie.close (tie.spec mul-at add-at (λ c κs. search needs) (λ c. search needs) (λ c. search needs) returns returns-2)

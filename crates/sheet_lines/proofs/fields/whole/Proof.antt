@@ -12,15 +12,6 @@ mul-at c = omega arith
 add-at : tie.Need-add-at
 add-at c = omega arith
 
-whole-at-requires : tie.Need-whole-at-requires
-whole-at-requires c κs = search needs
-
-enum-known-n : tie.Need-enum-known-n
-enum-known-n c = search needs
-
-enum-told : tie.Need-enum-told
-enum-told c = search needs
-
 returns : tie.Need-returns
 returns c = ap wholeIn (sym (c .enum-told .given .1) ∙ c .before .before .whole-at .ensures)
 
@@ -28,4 +19,4 @@ returns-2 : tie.Need-returns-2
 returns-2 c = ap wholeIn (sym (c .before .n .given .1) ∙ c .before .before .before .whole-at .ensures)
 
 pub whole-spec : {M : Type 1} → statement M
-whole-spec = tie.close (tie.spec mul-at add-at whole-at-requires enum-known-n enum-told returns returns-2)
+whole-spec = tie.close (tie.spec mul-at add-at (λ c κs. search needs) (λ c. search needs) (λ c. search needs) returns returns-2)

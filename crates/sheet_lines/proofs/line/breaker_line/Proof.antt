@@ -6,18 +6,6 @@ use borrow.Author.Needs.{needs}
 use Rattle.sheet_lines.proofs.line.breaker_line.Statement.{statement}
 use Rattle.sheet_lines.proofs.line.breaker_line.Tie as tie
 
-is-formed-requires : tie.Need-is-formed-requires
-is-formed-requires c κs = search needs
-
-three-wholes-requires : tie.Need-three-wholes-requires
-three-wholes-requires c κs = search needs
-
-four-reals-requires : tie.Need-four-reals-requires
-four-reals-requires c κs = search needs
-
-breaker-type-of-requires : tie.Need-breaker-type-of-requires
-breaker-type-of-requires c κs = search needs
-
 returns : tie.Need-returns
 returns c =
     let w = c .before .before .three-wholes .ensures in
@@ -29,4 +17,4 @@ unfolding breakerLine
 returns-2 c = rw (sym (c .before .is-formed .ensures) ∙ c .if1 .left)
 
 pub breaker-line-spec : {M : Type 1} → statement M
-breaker-line-spec = tie.close (tie.spec is-formed-requires three-wholes-requires four-reals-requires breaker-type-of-requires returns returns-2)
+breaker-line-spec = tie.close (tie.spec (λ c κs. search needs) (λ c κs. search needs) (λ c κs. search needs) (λ c κs. search needs) returns returns-2)

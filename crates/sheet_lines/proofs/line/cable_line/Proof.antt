@@ -5,15 +5,6 @@ use borrow.Author.Needs.{needs}
 use Rattle.sheet_lines.proofs.line.cable_line.Statement.{statement}
 use Rattle.sheet_lines.proofs.line.cable_line.Tie as tie
 
-is-formed-requires : tie.Need-is-formed-requires
-is-formed-requires c κs = search needs
-
-three-wholes-requires : tie.Need-three-wholes-requires
-three-wholes-requires c κs = search needs
-
-four-reals-requires : tie.Need-four-reals-requires
-four-reals-requires c κs = search needs
-
 returns : tie.Need-returns
 unfolding cableLine
 returns c = rw (sym (c .before .before .before .is-formed .ensures) ∙ c .before .before .if1 .taken, c .before .three-wholes .ensures, c .four-reals .ensures)
@@ -23,4 +14,4 @@ unfolding cableLine
 returns-2 c = rw (sym (c .before .is-formed .ensures) ∙ c .if1 .left)
 
 pub cable-line-spec : {M : Type 1} → statement M
-cable-line-spec = tie.close (tie.spec is-formed-requires three-wholes-requires four-reals-requires returns returns-2)
+cable-line-spec = tie.close (tie.spec (λ c κs. search needs) (λ c κs. search needs) (λ c κs. search needs) returns returns-2)

@@ -10,24 +10,6 @@ use Rattle.sheet_lines.proofs.line.line_of.Tie as tie
 returns : tie.Need-returns
 returns c = empty _ (c .if1 .taken)
 
-shared-slice-read-match : tie.Need-shared-slice-read-match
-shared-slice-read-match c = search needs
-
-times-line-requires : tie.Need-times-line-requires
-times-line-requires c κs = search needs
-
-order-line-requires : tie.Need-order-line-requires
-order-line-requires c κs = search needs
-
-station-line-requires : tie.Need-station-line-requires
-station-line-requires c κs = search needs
-
-cable-line-requires : tie.Need-cable-line-requires
-cable-line-requires c κs = search needs
-
-breaker-line-requires : tie.Need-breaker-line-requires
-breaker-line-requires c κs = search needs
-
 returns-2 : tie.Need-returns-2
 unfolding lineOf
 returns-2 c = rw (c .before .match .keys1) (c .times-line .ensures)
@@ -56,16 +38,5 @@ pub line-of-spec : {M : Type 1} → statement M
 line-of-spec =
     tie.close
     (tie.spec
-    returns
-    shared-slice-read-match
-    times-line-requires
-    order-line-requires
-    station-line-requires
-    cable-line-requires
-    breaker-line-requires
-    returns-2
-    returns-3
-    returns-4
-    returns-5
-    returns-6
-    returns-7)
+    returns (λ c. search needs) (λ c κs. search needs) (λ c κs. search needs) (λ c κs. search needs) (λ c κs. search needs) (λ c κs. search needs)
+    returns-2 returns-3 returns-4 returns-5 returns-6 returns-7)

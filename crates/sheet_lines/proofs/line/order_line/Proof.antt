@@ -5,21 +5,6 @@ use borrow.Author.Needs.{needs}
 use Rattle.sheet_lines.proofs.line.order_line.Statement.{statement}
 use Rattle.sheet_lines.proofs.line.order_line.Tie as tie
 
-is-formed-requires : tie.Need-is-formed-requires
-is-formed-requires c κs = search needs
-
-real-requires : tie.Need-real-requires
-real-requires c κs = search needs
-
-real-requires-2 : tie.Need-real-requires-2
-real-requires-2 c κs = search needs
-
-whole-requires : tie.Need-whole-requires
-whole-requires c κs = search needs
-
-whole-requires-2 : tie.Need-whole-requires-2
-whole-requires-2 c κs = search needs
-
 returns : tie.Need-returns
 unfolding orderLine
 returns c = rw (sym (c .before .before .before .before .before .is-formed .ensures) ∙ c .before .before .before .before .if1 .taken, c .before .before .before .real .ensures, c .before .before .real2 .ensures, c .before .whole .ensures, c .whole2 .ensures)
@@ -32,10 +17,4 @@ pub order-line-spec : {M : Type 1} → statement M
 order-line-spec =
     tie.close
     (tie.spec
-    is-formed-requires
-    real-requires
-    real-requires-2
-    whole-requires
-    whole-requires-2
-    returns
-    returns-2)
+    (λ c κs. search needs) (λ c κs. search needs) (λ c κs. search needs) (λ c κs. search needs) (λ c κs. search needs) returns returns-2)

@@ -6,21 +6,6 @@ use borrow.Author.Needs.{needs}
 use Rattle.sheet_lines.proofs.line.station_line.Statement.{statement}
 use Rattle.sheet_lines.proofs.line.station_line.Tie as tie
 
-is-formed-requires : tie.Need-is-formed-requires
-is-formed-requires c κs = search needs
-
-three-wholes-requires : tie.Need-three-wholes-requires
-three-wholes-requires c κs = search needs
-
-four-reals-requires : tie.Need-four-reals-requires
-four-reals-requires c κs = search needs
-
-four-reals-requires-2 : tie.Need-four-reals-requires-2
-four-reals-requires-2 c κs = search needs
-
-topology-of-requires : tie.Need-topology-of-requires
-topology-of-requires c κs = search needs
-
 returns : tie.Need-returns
 returns c =
     let w = c .before .before .before .three-wholes .ensures in
@@ -31,4 +16,7 @@ unfolding stationLine
 returns-2 c = rw (sym (c .before .is-formed .ensures) ∙ c .if1 .left)
 
 pub station-line-spec : {M : Type 1} → statement M
-station-line-spec = tie.close (tie.spec is-formed-requires three-wholes-requires four-reals-requires four-reals-requires-2 topology-of-requires returns returns-2)
+station-line-spec =
+    tie.close
+    (tie.spec
+    (λ c κs. search needs) (λ c κs. search needs) (λ c κs. search needs) (λ c κs. search needs) (λ c κs. search needs) returns returns-2)

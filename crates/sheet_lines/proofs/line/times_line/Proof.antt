@@ -5,15 +5,6 @@ use borrow.Author.Needs.{needs}
 use Rattle.sheet_lines.proofs.line.times_line.Statement.{statement}
 use Rattle.sheet_lines.proofs.line.times_line.Tie as tie
 
-is-formed-requires : tie.Need-is-formed-requires
-is-formed-requires c κs = search needs
-
-real-requires : tie.Need-real-requires
-real-requires c κs = search needs
-
-real-requires-2 : tie.Need-real-requires-2
-real-requires-2 c κs = search needs
-
 returns : tie.Need-returns
 unfolding timesLine
 returns c = rw (sym (c .before .before .before .is-formed .ensures) ∙ c .before .before .if1 .taken, c .before .real .ensures, c .real2 .ensures)
@@ -23,5 +14,4 @@ unfolding timesLine
 returns-2 c = rw (sym (c .before .is-formed .ensures) ∙ c .if1 .left)
 
 pub times-line-spec : {M : Type 1} → statement M
-times-line-spec =
-    tie.close (tie.spec is-formed-requires real-requires real-requires-2 returns returns-2)
+times-line-spec = tie.close (tie.spec (λ c κs. search needs) (λ c κs. search needs) (λ c κs. search needs) returns returns-2)

@@ -6,9 +6,6 @@ use borrow.Author.Needs.{needs}
 use Rattle.sheet_parts.proofs.parts.counted_on.Statement.{statement}
 use Rattle.sheet_parts.proofs.parts.counted_on.Tie as tie
 
-add-result : tie.Need-add-result
-add-result c = search needs
-
 returns : tie.Need-returns
 unfolding countedOn
 returns c = rw (lt-ltb _ _ (c .if1 .taken))
@@ -18,4 +15,4 @@ unfolding countedOn
 returns-2 c = rw (le-ltb _ _ (c .if1 .left))
 
 pub counted-on-spec : {M : Type 1} → statement M
-counted-on-spec = tie.close (tie.spec add-result returns returns-2)
+counted-on-spec = tie.close (tie.spec (λ c. search needs) returns returns-2)

@@ -6,15 +6,6 @@ use borrow.Author.Needs.{needs}
 use Rattle.sheet_parts.proofs.parts.with_breaker.Statement.{statement}
 use Rattle.sheet_parts.proofs.parts.with_breaker.Tie as tie
 
-counted-on-requires : tie.Need-counted-on-requires
-counted-on-requires c κs = search needs
-
-mul-breaker : tie.Need-mul-breaker
-mul-breaker c = search needs
-
-element-set-from-breaker : tie.Need-element-set-from-breaker
-element-set-from-breaker c = search needs
-
 returns : tie.Need-returns
 unfolding breakerTaken
 returns c = rw (lt-ltb _ _ (c .if1 .taken), c .before .counted-on .ensures)
@@ -24,5 +15,4 @@ unfolding breakerTaken
 returns-2 c = rw (le-ltb _ _ (c .if1 .left), c .before .counted-on .ensures)
 
 pub with-breaker-spec : {M : Type 1} → statement M
-with-breaker-spec =
-    tie.close (tie.spec counted-on-requires mul-breaker element-set-from-breaker returns returns-2)
+with-breaker-spec = tie.close (tie.spec (λ c κs. search needs) (λ c. search needs) (λ c. search needs) returns returns-2)

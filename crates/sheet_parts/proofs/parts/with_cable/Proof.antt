@@ -6,15 +6,6 @@ use borrow.Author.Needs.{needs}
 use Rattle.sheet_parts.proofs.parts.with_cable.Statement.{statement}
 use Rattle.sheet_parts.proofs.parts.with_cable.Tie as tie
 
-counted-on-requires : tie.Need-counted-on-requires
-counted-on-requires c κs = search needs
-
-mul-cable : tie.Need-mul-cable
-mul-cable c = search needs
-
-element-set-from-cable : tie.Need-element-set-from-cable
-element-set-from-cable c = search needs
-
 returns : tie.Need-returns
 unfolding cableTaken
 returns c = rw (lt-ltb _ _ (c .if1 .taken), c .before .counted-on .ensures)
@@ -24,5 +15,4 @@ unfolding cableTaken
 returns-2 c = rw (le-ltb _ _ (c .if1 .left), c .before .counted-on .ensures)
 
 pub with-cable-spec : {M : Type 1} → statement M
-with-cable-spec =
-    tie.close (tie.spec counted-on-requires mul-cable element-set-from-cable returns returns-2)
+with-cable-spec = tie.close (tie.spec (λ c κs. search needs) (λ c. search needs) (λ c. search needs) returns returns-2)

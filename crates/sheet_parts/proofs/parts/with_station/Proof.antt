@@ -6,15 +6,6 @@ use borrow.Author.Needs.{needs}
 use Rattle.sheet_parts.proofs.parts.with_station.Statement.{statement}
 use Rattle.sheet_parts.proofs.parts.with_station.Tie as tie
 
-counted-on-requires : tie.Need-counted-on-requires
-counted-on-requires c κs = search needs
-
-mul-station : tie.Need-mul-station
-mul-station c = search needs
-
-element-set-from-station : tie.Need-element-set-from-station
-element-set-from-station c = search needs
-
 returns : tie.Need-returns
 unfolding stationTaken
 returns c = rw (lt-ltb _ _ (c .if1 .taken), c .before .counted-on .ensures)
@@ -24,5 +15,4 @@ unfolding stationTaken
 returns-2 c = rw (le-ltb _ _ (c .if1 .left), c .before .counted-on .ensures)
 
 pub with-station-spec : {M : Type 1} → statement M
-with-station-spec =
-    tie.close (tie.spec counted-on-requires mul-station element-set-from-station returns returns-2)
+with-station-spec = tie.close (tie.spec (λ c κs. search needs) (λ c. search needs) (λ c. search needs) returns returns-2)

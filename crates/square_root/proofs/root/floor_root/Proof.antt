@@ -21,27 +21,12 @@ Inv-loop2 m s₀ k j₀ s j = (j ≤ 26) × ((s .root * s .root + s .rest) * 2 ^
 abbrev μ-loop2 : tie.MeasureT-loop2
 μ-loop2 m s₀ k j₀ s j = j
 
-loop-holds : tie.Need-loop-holds Inv-loop μ-loop Inv-loop2 μ-loop2
-loop-holds c = search needs
-
-sub-k : tie.Need-sub-k Inv-loop μ-loop Inv-loop2 μ-loop2
-sub-k c = search needs
-
-mul-next-digit : tie.Need-mul-next-digit Inv-loop μ-loop Inv-loop2 μ-loop2
-mul-next-digit c = search needs
-
-shr-next-digit : tie.Need-shr-next-digit Inv-loop μ-loop Inv-loop2 μ-loop2
-shr-next-digit c = search needs
-
 next-digit-requires : tie.Need-next-digit-requires Inv-loop μ-loop Inv-loop2 μ-loop2
 next-digit-requires c κs =
     let at-loop = c .before in
     let k = at-loop .loop .k in
     let m = at-loop .before .args .m in
     (sq-lt _ (omega (arith, shr-le m (2 * k), at-loop .loop .inv .1 .split)), at-loop .loop .inv .1 .small, omega arith)
-
-loop-less : tie.Need-loop-less Inv-loop μ-loop Inv-loop2 μ-loop2
-loop-less c = search needs
 
 loop-again : tie.Need-loop-again Inv-loop μ-loop Inv-loop2 μ-loop2
 loop-again c =
@@ -55,17 +40,11 @@ loop2-holds c =
     let z = at-zero (c .before .before .args .m) (c .before .loop .k) (c .loop-test .left) in
     (omega arith, omega (arith, z, c .before .loop .inv .1 .split), c .before .loop .inv .1 .small)
 
-sub-j : tie.Need-sub-j Inv-loop μ-loop Inv-loop2 μ-loop2
-sub-j c = search needs
-
 next-digit-requires-2 : tie.Need-next-digit-requires-2 Inv-loop μ-loop Inv-loop2 μ-loop2
 next-digit-requires-2 c κs =
     let i = c .before .loop2 .inv in
     let s = c .before .loop2 .s in
     (sq-lt _ (omega (arith, le-scaled (s .root * s .root + s .rest) (2 * c .before .loop2 .j), i .1)), i .2, omega arith)
-
-loop2-less : tie.Need-loop2-less Inv-loop μ-loop Inv-loop2 μ-loop2
-loop2-less c = search needs
 
 loop2-again : tie.Need-loop2-again Inv-loop μ-loop Inv-loop2 μ-loop2
 loop2-again c =
@@ -81,20 +60,5 @@ pub floor-root-spec : {M : Type 1} → statement M
 floor-root-spec =
     tie.close
     (tie.spec
-    Inv-loop
-    μ-loop
-    Inv-loop2
-    μ-loop2
-    loop-holds
-    sub-k
-    mul-next-digit
-    shr-next-digit
-    next-digit-requires
-    loop-less
-    loop-again
-    loop2-holds
-    sub-j
-    next-digit-requires-2
-    loop2-less
-    loop2-again
-    returns)
+    Inv-loop μ-loop Inv-loop2 μ-loop2 (λ c. search needs) (λ c. search needs) (λ c. search needs) (λ c. search needs) next-digit-requires
+    (λ c. search needs) loop-again loop2-holds (λ c. search needs) next-digit-requires-2 (λ c. search needs) loop2-again returns)

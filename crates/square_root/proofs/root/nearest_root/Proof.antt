@@ -6,12 +6,6 @@ use borrow.Author.Needs.{needs}
 use Rattle.square_root.proofs.root.nearest_root.Statement.{statement}
 use Rattle.square_root.proofs.root.nearest_root.Tie as tie
 
-floor-root-requires : tie.Need-floor-root-requires
-floor-root-requires c κs = search needs
-
-add-result : tie.Need-add-result
-add-result c = search needs
-
 returns : tie.Need-returns
 returns c =
     let a = c .before .before .before in
@@ -29,4 +23,4 @@ returns-2 c =
     (nearest-down _ _ _ (omega arith) (e .split) (c .if1 .left), (omega arith, omega arith))
 
 pub nearest-root-spec : {M : Type 1} → statement M
-nearest-root-spec = tie.close (tie.spec floor-root-requires add-result returns returns-2)
+nearest-root-spec = tie.close (tie.spec (λ c κs. search needs) (λ c. search needs) returns returns-2)

@@ -16,9 +16,6 @@ abbrev μ-loop : tie.MeasureT-loop
 loop-holds : tie.Need-loop-holds Inv-loop μ-loop
 loop-holds c = (omega arith, refl, omega arith, omega arith)
 
-mul-m : tie.Need-mul-m Inv-loop μ-loop
-mul-m c = search needs
-
 sub-w : tie.Need-sub-w Inv-loop μ-loop
 sub-w c = places _ _ (c .before .loop .inv .3) (c .loop-test .taken)
 
@@ -35,5 +32,4 @@ returns : tie.Need-returns Inv-loop μ-loop
 returns c = record { long = (c .loop-test .left, c .before .loop .inv .0); same = c .before .loop .inv .1; most = c .before .loop .inv .2 }
 
 pub normalised-spec : {M : Type 1} → statement M
-normalised-spec =
-    tie.close (tie.spec Inv-loop μ-loop loop-holds mul-m sub-w loop-less loop-again returns)
+normalised-spec = tie.close (tie.spec Inv-loop μ-loop loop-holds (λ c. search needs) sub-w loop-less loop-again returns)

@@ -16,14 +16,8 @@ float-to-bits-b c = no-nan _ (c .pre)
 normalised-requires : tie.Need-normalised-requires
 normalised-requires c κs = (read-pos _ _ (c .before .pre) (fields (c .before)) (c .if1 .taken), omega arith)
 
-root-pattern-requires : tie.Need-root-pattern-requires
-root-pattern-requires c κs = search needs
-
 float-from-bits-result : tie.Need-float-from-bits-result
 float-from-bits-result c = no-nan-pattern _ _ _ (omega arith) (c .root-pattern .ensures)
-
-add-root-pattern : tie.Need-add-root-pattern
-add-root-pattern c = search needs
 
 add-root-pattern-2 : tie.Need-add-root-pattern-2
 add-root-pattern-2 c = let r = fields (c .before) in omega arith
@@ -48,13 +42,5 @@ pub root-of-positive-spec : {M : Type 1} → statement M
 root-of-positive-spec =
     tie.close
     (tie.spec
-    float-to-bits-b
-    normalised-requires
-    root-pattern-requires
-    float-from-bits-result
-    add-root-pattern
-    add-root-pattern-2
-    root-pattern-requires-2
-    float-from-bits-result-2
-    returns
-    returns-2)
+    float-to-bits-b normalised-requires (λ c κs. search needs) float-from-bits-result (λ c. search needs) add-root-pattern-2 root-pattern-requires-2
+    float-from-bits-result-2 returns returns-2)

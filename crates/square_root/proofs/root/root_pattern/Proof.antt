@@ -6,27 +6,6 @@ use borrow.Author.Needs.{needs}
 use Rattle.square_root.proofs.root.root_pattern.Statement.{statement}
 use Rattle.square_root.proofs.root.root_pattern.Tie as tie
 
-mul-result : tie.Need-mul-result
-mul-result c = search needs
-
-nearest-root-requires : tie.Need-nearest-root-requires
-nearest-root-requires c κs = search needs
-
-add-result : tie.Need-add-result
-add-result c = search needs
-
-mul-result-2 : tie.Need-mul-result-2
-mul-result-2 c = search needs
-
-mul-nearest-root : tie.Need-mul-nearest-root
-mul-nearest-root c = search needs
-
-nearest-root-requires-2 : tie.Need-nearest-root-requires-2
-nearest-root-requires-2 c κs = search needs
-
-add-result-2 : tie.Need-add-result-2
-add-result-2 c = search needs
-
 returns : tie.Need-returns
 returns c =
     let e = c .nearest-root .ensures in
@@ -41,12 +20,5 @@ pub root-pattern-spec : {M : Type 1} → statement M
 root-pattern-spec =
     tie.close
     (tie.spec
-    mul-result
-    nearest-root-requires
-    add-result
-    mul-result-2
-    mul-nearest-root
-    nearest-root-requires-2
-    add-result-2
-    returns
-    returns-2)
+    (λ c. search needs) (λ c κs. search needs) (λ c. search needs) (λ c. search needs) (λ c. search needs) (λ c κs. search needs) (λ c. search needs)
+    returns returns-2)

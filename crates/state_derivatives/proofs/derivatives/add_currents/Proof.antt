@@ -23,36 +23,6 @@ loop-holds c =
     let a = c .args in
     (omega arith, rw (c .pre .2) (nets-none (end (a .from .now)) (end (a .to .now)) (a .n) (a .y .now)))
 
-mul-pass-current : tie.Need-mul-pass-current Inv-loop μ-loop
-mul-pass-current c = search needs
-
-element-copy-out-pass-current : tie.Need-element-copy-out-pass-current Inv-loop μ-loop
-element-copy-out-pass-current c = search needs
-
-mul-pass-current-2 : tie.Need-mul-pass-current-2 Inv-loop μ-loop
-mul-pass-current-2 c = search needs
-
-element-copy-out-pass-current-2 : tie.Need-element-copy-out-pass-current-2 Inv-loop μ-loop
-element-copy-out-pass-current-2 c = search needs
-
-add-pass-current : tie.Need-add-pass-current Inv-loop μ-loop
-add-pass-current c = search needs
-
-mul-pass-current-3 : tie.Need-mul-pass-current-3 Inv-loop μ-loop
-mul-pass-current-3 c = search needs
-
-element-copy-out-pass-current-3 : tie.Need-element-copy-out-pass-current-3 Inv-loop μ-loop
-element-copy-out-pass-current-3 c = search needs
-
-pass-current-requires : tie.Need-pass-current-requires Inv-loop μ-loop
-pass-current-requires c κs = search needs
-
-add-k : tie.Need-add-k Inv-loop μ-loop
-add-k c = search needs
-
-loop-less : tie.Need-loop-less Inv-loop μ-loop
-loop-less c = search needs
-
 loop-again : tie.Need-loop-again Inv-loop μ-loop
 loop-again c =
     let l = c .before .before .before .before .before .before in
@@ -68,18 +38,5 @@ pub add-currents-spec : {M : Type 1} → statement M
 add-currents-spec =
     tie.close
     (tie.spec
-    Inv-loop
-    μ-loop
-    loop-holds
-    mul-pass-current
-    element-copy-out-pass-current
-    mul-pass-current-2
-    element-copy-out-pass-current-2
-    add-pass-current
-    mul-pass-current-3
-    element-copy-out-pass-current-3
-    pass-current-requires
-    add-k
-    loop-less
-    loop-again
-    returns)
+    Inv-loop μ-loop loop-holds (λ c. search needs) (λ c. search needs) (λ c. search needs) (λ c. search needs) (λ c. search needs) (λ c. search needs)
+    (λ c. search needs) (λ c κs. search needs) (λ c. search needs) (λ c. search needs) loop-again returns)

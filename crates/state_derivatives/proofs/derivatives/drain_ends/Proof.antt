@@ -20,48 +20,6 @@ first j =
     (λ w. w .1 ∙ once-past (a .n) nan g (a .drain .from) (a .nets .now) (w .0 .left))
     (j .if1 .came)
 
-mul-nets : tie.Need-mul-nets
-mul-nets c = search needs
-
-element-copy-out-nets : tie.Need-element-copy-out-nets
-element-copy-out-nets c = search needs
-
-mul-drain-current : tie.Need-mul-drain-current
-mul-drain-current c = search needs
-
-element-copy-out-drain-current : tie.Need-element-copy-out-drain-current
-element-copy-out-drain-current c = search needs
-
-drain-current-requires : tie.Need-drain-current-requires
-drain-current-requires c κs = search needs
-
-mul-nets-2 : tie.Need-mul-nets-2
-mul-nets-2 c = search needs
-
-element-write-nets : tie.Need-element-write-nets
-element-write-nets c = search needs
-
-mul-nets-3 : tie.Need-mul-nets-3
-mul-nets-3 c = search needs
-
-element-copy-out-nets-2 : tie.Need-element-copy-out-nets-2
-element-copy-out-nets-2 c = search needs
-
-mul-drain-current-2 : tie.Need-mul-drain-current-2
-mul-drain-current-2 c = search needs
-
-element-copy-out-drain-current-2 : tie.Need-element-copy-out-drain-current-2
-element-copy-out-drain-current-2 c = search needs
-
-drain-current-requires-2 : tie.Need-drain-current-requires-2
-drain-current-requires-2 c κs = search needs
-
-mul-nets-4 : tie.Need-mul-nets-4
-mul-nets-4 c = search needs
-
-element-write-nets-2 : tie.Need-element-write-nets-2
-element-write-nets-2 c = search needs
-
 returns : tie.Need-returns
 returns c =
     let j = c .before .before .before .before .before in
@@ -91,20 +49,6 @@ pub drain-ends-spec : {M : Type 1} → statement M
 drain-ends-spec =
     tie.close
     (tie.spec
-    mul-nets
-    element-copy-out-nets
-    mul-drain-current
-    element-copy-out-drain-current
-    drain-current-requires
-    mul-nets-2
-    element-write-nets
-    mul-nets-3
-    element-copy-out-nets-2
-    mul-drain-current-2
-    element-copy-out-drain-current-2
-    drain-current-requires-2
-    mul-nets-4
-    element-write-nets-2
-    returns
-    returns-2
-    returns-3)
+    (λ c. search needs) (λ c. search needs) (λ c. search needs) (λ c. search needs) (λ c κs. search needs) (λ c. search needs) (λ c. search needs)
+    (λ c. search needs) (λ c. search needs) (λ c. search needs) (λ c. search needs) (λ c κs. search needs) (λ c. search needs) (λ c. search needs)
+    returns returns-2 returns-3)

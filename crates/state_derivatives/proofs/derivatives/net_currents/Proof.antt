@@ -9,12 +9,6 @@ use borrow.Author.Needs.{needs}
 use Rattle.state_derivatives.proofs.derivatives.net_currents.Statement.{statement}
 use Rattle.state_derivatives.proofs.derivatives.net_currents.Tie as tie
 
-present-requires : tie.Need-present-requires
-present-requires c κs = search needs
-
-present-requires-2 : tie.Need-present-requires-2
-present-requires-2 c κs = search needs
-
 add-currents-requires : tie.Need-add-currents-requires
 unfolding blank
 add-currents-requires c κs =
@@ -30,4 +24,4 @@ returns c =
     c .add-currents .ensures ∙ λ i. padded 32 (n i) (net (end (a .from .now)) (end (a .to .now)) (n i) (a .state .y) (m i)) nought
 
 pub net-currents-spec : {M : Type 1} → statement M
-net-currents-spec = tie.close (tie.spec present-requires present-requires-2 add-currents-requires returns)
+net-currents-spec = tie.close (tie.spec (λ c κs. search needs) (λ c κs. search needs) add-currents-requires returns)

@@ -24,30 +24,6 @@ first j =
     (λ w. w .1 ∙ once-past (a .n) nan (come (a .current)) (a .to) (a .nets .now) (w .0 .left))
     (j .if1 .came)
 
-mul-nets : tie.Need-mul-nets
-mul-nets c = search needs
-
-element-copy-out-nets : tie.Need-element-copy-out-nets
-element-copy-out-nets c = search needs
-
-mul-nets-2 : tie.Need-mul-nets-2
-mul-nets-2 c = search needs
-
-element-write-nets : tie.Need-element-write-nets
-element-write-nets c = search needs
-
-mul-nets-3 : tie.Need-mul-nets-3
-mul-nets-3 c = search needs
-
-element-copy-out-nets-2 : tie.Need-element-copy-out-nets-2
-element-copy-out-nets-2 c = search needs
-
-mul-nets-4 : tie.Need-mul-nets-4
-mul-nets-4 c = search needs
-
-element-write-nets-2 : tie.Need-element-write-nets-2
-element-write-nets-2 c = search needs
-
 returns : tie.Need-returns
 returns c =
     let j = c .before .before .before in
@@ -70,14 +46,5 @@ pub pass-current-spec : {M : Type 1} → statement M
 pass-current-spec =
     tie.close
     (tie.spec
-    mul-nets
-    element-copy-out-nets
-    mul-nets-2
-    element-write-nets
-    mul-nets-3
-    element-copy-out-nets-2
-    mul-nets-4
-    element-write-nets-2
-    returns
-    returns-2
-    returns-3)
+    (λ c. search needs) (λ c. search needs) (λ c. search needs) (λ c. search needs) (λ c. search needs) (λ c. search needs) (λ c. search needs)
+    (λ c. search needs) returns returns-2 returns-3)

@@ -15,12 +15,6 @@ use Rattle.state_derivatives.proofs.derivatives.state_derivatives.Tie a
 sized : (p : tie.After-present2) → (p .before .present .result ≤ 32) × (p .present2 .result ≤ 64)
 sized p = (omega (arith, p .before .present .ensures), omega (arith, p .present2 .ensures))
 
-present-requires : tie.Need-present-requires
-present-requires c κs = search needs
-
-present-requires-2 : tie.Need-present-requires-2
-present-requires-2 c κs = search needs
-
 add-currents-requires : tie.Need-add-currents-requires
 unfolding blank
 add-currents-requires c κs = let z = sized (c .before .before .before) in (z .0, z .1, refl)
@@ -56,10 +50,4 @@ pub state-derivatives-spec : {M : Type 1} → statement M
 state-derivatives-spec =
     tie.close
     (tie.spec
-    present-requires
-    present-requires-2
-    add-currents-requires
-    drain-ends-requires
-    station-rates-requires
-    cable-rates-requires
-    returns)
+    (λ c κs. search needs) (λ c κs. search needs) add-currents-requires drain-ends-requires station-rates-requires cable-rates-requires returns)

@@ -20,33 +20,6 @@ abbrev μ-loop : tie.MeasureT-loop
 loop-holds : tie.Need-loop-holds Inv-loop μ-loop
 loop-holds c = (omega arith, rw (c .pre .1) (upto-none _ _))
 
-mul-dy : tie.Need-mul-dy Inv-loop μ-loop
-mul-dy c = search needs
-
-element-copy-out-dy : tie.Need-element-copy-out-dy Inv-loop μ-loop
-element-copy-out-dy c = search needs
-
-mul-t12 : tie.Need-mul-t12 Inv-loop μ-loop
-mul-t12 c = search needs
-
-element-copy-out-t15 : tie.Need-element-copy-out-t15 Inv-loop μ-loop
-element-copy-out-t15 c = search needs
-
-station-rate-requires : tie.Need-station-rate-requires Inv-loop μ-loop
-station-rate-requires c κs = search needs
-
-mul-dy-2 : tie.Need-mul-dy-2 Inv-loop μ-loop
-mul-dy-2 c = search needs
-
-element-write-dy : tie.Need-element-write-dy Inv-loop μ-loop
-element-write-dy c = search needs
-
-add-i : tie.Need-add-i Inv-loop μ-loop
-add-i c = search needs
-
-loop-less : tie.Need-loop-less Inv-loop μ-loop
-loop-less c = search needs
-
 loop-again : tie.Need-loop-again Inv-loop μ-loop
 loop-again c =
     let l = c .before .before .before .before in
@@ -62,17 +35,5 @@ pub station-rates-spec : {M : Type 1} → statement M
 station-rates-spec =
     tie.close
     (tie.spec
-    Inv-loop
-    μ-loop
-    loop-holds
-    mul-dy
-    element-copy-out-dy
-    mul-t12
-    element-copy-out-t15
-    station-rate-requires
-    mul-dy-2
-    element-write-dy
-    add-i
-    loop-less
-    loop-again
-    returns)
+    Inv-loop μ-loop loop-holds (λ c. search needs) (λ c. search needs) (λ c. search needs) (λ c. search needs) (λ c κs. search needs)
+    (λ c. search needs) (λ c. search needs) (λ c. search needs) (λ c. search needs) loop-again returns)

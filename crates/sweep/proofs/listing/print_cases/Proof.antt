@@ -56,9 +56,6 @@ say-requires : tie.Need-say-requires Inv-loop μ-loop
 say-requires c κs = tt
 
 -- src/listing.rt:86:13
-enum-told : tie.Need-enum-told Inv-loop μ-loop
-enum-told c = search needs
-
 -- src/listing.rt:86:13
 print-end-requires : tie.Need-print-end-requires Inv-loop μ-loop
 print-end-requires c κs = tt
@@ -83,22 +80,5 @@ pub print-cases-spec : {M : Type 1} → statement M
 print-cases-spec =
     tie.close
     (tie.spec
-    Inv-loop
-    μ-loop
-    case-count-requires
-    total-steps-requires
-    allowance-of-requires
-    is-long-requires
-    loop-holds
-    sub-calls
-    advance-requires
-    sum-of-requires
-    print-rows-requires
-    returns
-    say-requires
-    enum-told
-    print-end-requires
-    returns-2
-    loop-less
-    loop-again
-    returns-3)
+    Inv-loop μ-loop case-count-requires total-steps-requires allowance-of-requires is-long-requires loop-holds sub-calls advance-requires
+    sum-of-requires print-rows-requires returns say-requires (λ c. search needs) print-end-requires returns-2 loop-less loop-again returns-3)

@@ -17,18 +17,6 @@ use Rattle.sweep_start.proofs.start.start_sweep.Tie as tie
 long : (c : tie.Start) → length (c .args .g .cables) ≡ 64
 long c = search (needs, unmapped)
 
-check-sweep-requires : tie.Need-check-sweep-requires
-check-sweep-requires c κs = search needs
-
-number-requires : tie.Need-number-requires
-number-requires c κs = search needs
-
-solve-dc-power-flow-requires : tie.Need-solve-dc-power-flow-requires
-solve-dc-power-flow-requires c κs = search needs
-
-first-open-case-requires : tie.Need-first-open-case-requires
-first-open-case-requires c κs = search needs
-
 returns : tie.Need-returns
 unfolding startedSweep
 returns c =
@@ -45,9 +33,6 @@ returns c =
       rw (none, c .first-open-case .ensures, flow) (sym (fresh-is (a .g) (a .order) z (long (k .before)) (solutionOf (a .g)))),
     )
 
-blank-sweep-requires : tie.Need-blank-sweep-requires
-blank-sweep-requires c κs = search needs
-
 returns-2 : tie.Need-returns-2
 unfolding startedSweep numberOf
 returns-2 c =
@@ -61,9 +46,6 @@ returns-2 c =
     let off : solutionOf (a .g) .converged ≡ false = sym (ap (λ (x : DcGridSolution). x .converged) flow) ∙ i .if2 .left in
     let ten : startRefusal (a .g) (a .order) (not (solutionOf (a .g) .converged)) ≡ 10 = refusal-claims .start-last (a .g) (a .order) (not (solutionOf (a .g) .converged)) z ∙ rw off in
     (sym ten, rw (ten, c .blank-sweep .ensures))
-
-blank-sweep-requires-2 : tie.Need-blank-sweep-requires-2
-blank-sweep-requires-2 c κs = search needs
 
 returns-3 : tie.Need-returns-3
 unfolding startedSweep
@@ -79,12 +61,5 @@ pub start-sweep-spec : {M : Type 1} → statement M
 start-sweep-spec =
     tie.close
     (tie.spec
-    check-sweep-requires
-    number-requires
-    solve-dc-power-flow-requires
-    first-open-case-requires
-    returns
-    blank-sweep-requires
-    returns-2
-    blank-sweep-requires-2
-    returns-3)
+    (λ c κs. search needs) (λ c κs. search needs) (λ c κs. search needs) (λ c κs. search needs) returns (λ c κs. search needs) returns-2
+    (λ c κs. search needs) returns-3)

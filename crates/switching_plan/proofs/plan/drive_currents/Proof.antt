@@ -30,33 +30,6 @@ loop-holds c =
     let a = c .args in
     (omega arith, omega arith, c .pre .2 ∙ padded-same 96 (a .n) _ (driven (a .stations) (a .t4) (a .n)) nought (λ k l. rw (lt-ltb k (a .n) l)) ∙ sym (upto-padded (a .n) 96 _ nought (omega (arith, c .pre .0))))
 
-add-loop : tie.Need-add-loop Inv-loop μ-loop
-add-loop c = search needs
-
-sub-c : tie.Need-sub-c Inv-loop μ-loop
-sub-c c = search needs
-
-mul-c : tie.Need-mul-c Inv-loop μ-loop
-mul-c c = search needs
-
-array-copy-out-c : tie.Need-array-copy-out-c Inv-loop μ-loop
-array-copy-out-c c = search needs
-
-driven-current-requires : tie.Need-driven-current-requires Inv-loop μ-loop
-driven-current-requires c κs = search needs
-
-mul-y : tie.Need-mul-y Inv-loop μ-loop
-mul-y c = search needs
-
-element-write-y : tie.Need-element-write-y Inv-loop μ-loop
-element-write-y c = search needs
-
-add-i : tie.Need-add-i Inv-loop μ-loop
-add-i c = search needs
-
-loop-less : tie.Need-loop-less Inv-loop μ-loop
-loop-less c = search needs
-
 loop-again : tie.Need-loop-again Inv-loop μ-loop
 loop-again c =
     let l = c .before .before .before in
@@ -75,17 +48,5 @@ pub drive-currents-spec : {M : Type 1} → statement M
 drive-currents-spec =
     tie.close
     (tie.spec
-    Inv-loop
-    μ-loop
-    loop-holds
-    add-loop
-    sub-c
-    mul-c
-    array-copy-out-c
-    driven-current-requires
-    mul-y
-    element-write-y
-    add-i
-    loop-less
-    loop-again
-    returns)
+    Inv-loop μ-loop loop-holds (λ c. search needs) (λ c. search needs) (λ c. search needs) (λ c. search needs) (λ c κs. search needs)
+    (λ c. search needs) (λ c. search needs) (λ c. search needs) (λ c. search needs) loop-again returns)

@@ -26,27 +26,6 @@ between stations f t n c d r e e′ l l′ h = rw (getD-within stations f d blan
 long : (c : tie.Start) → length (c .args .t1) ≡ 32
 long c = search (needs, unmapped)
 
-cut-end-requires : tie.Need-cut-end-requires
-cut-end-requires c κs = search needs
-
-mul-from : tie.Need-mul-from
-mul-from c = search needs
-
-array-copy-out-from : tie.Need-array-copy-out-from
-array-copy-out-from c = search needs
-
-cut-end-requires-2 : tie.Need-cut-end-requires-2
-cut-end-requires-2 c κs = search needs
-
-mul-to : tie.Need-mul-to
-mul-to c = search needs
-
-array-copy-out-to : tie.Need-array-copy-out-to
-array-copy-out-to c = search needs
-
-cable-resistance-requires : tie.Need-cable-resistance-requires
-cable-resistance-requires c κs = search needs
-
 returns : tie.Need-returns
 returns c =
     let t = c .before .before .before .before in
@@ -58,11 +37,5 @@ pub driven-current-spec : {M : Type 1} → statement M
 driven-current-spec =
     tie.close
     (tie.spec
-    cut-end-requires
-    mul-from
-    array-copy-out-from
-    cut-end-requires-2
-    mul-to
-    array-copy-out-to
-    cable-resistance-requires
-    returns)
+    (λ c κs. search needs) (λ c. search needs) (λ c. search needs) (λ c κs. search needs) (λ c. search needs) (λ c. search needs)
+    (λ c κs. search needs) returns)

@@ -10,23 +10,11 @@ use Rattle.switching_plan.proofs.plan.first_switching_variables.Stateme
 }
 use Rattle.switching_plan.proofs.plan.first_switching_variables.Tie as tie
 
-present-requires : tie.Need-present-requires
-present-requires c κs = search needs
-
-rated-voltages-requires : tie.Need-rated-voltages-requires
-rated-voltages-requires c κs = search needs
-
-present-requires-2 : tie.Need-present-requires-2
-present-requires-2 c κs = search needs
-
 drive-currents-requires : tie.Need-drive-currents-requires
 unfolding ratedOf
 drive-currents-requires c κs =
     let r = c .before .before in
     (omega (arith, r .before .present .ensures), omega (arith, c .present2 .ensures), r .rated-voltages .ensures ∙ rw (r .before .present .ensures))
-
-breakers-all-requires : tie.Need-breakers-all-requires
-breakers-all-requires c κs = search needs
 
 returns : tie.Need-returns
 unfolding beforeSwitching blank
@@ -38,9 +26,4 @@ pub first-switching-variables-spec : {M : Type 1} → statement M
 first-switching-variables-spec =
     tie.close
     (tie.spec
-    present-requires
-    rated-voltages-requires
-    present-requires-2
-    drive-currents-requires
-    breakers-all-requires
-    returns)
+    (λ c κs. search needs) (λ c κs. search needs) (λ c κs. search needs) drive-currents-requires (λ c κs. search needs) returns)

@@ -11,12 +11,6 @@ use borrow.Author.Needs.{needs}
 use Rattle.switching_runs.proofs.switching_run.switching_run_refused.Statement.{statement}
 use Rattle.switching_runs.proofs.switching_run.switching_run_refused.Tie as tie
 
-check-switching-requires : tie.Need-check-switching-requires
-check-switching-requires c κs = search needs
-
-number-requires : tie.Need-number-requires
-number-requires c κs = search needs
-
 returns : tie.Need-returns
 unfolding switchingRunRefused
 returns c =
@@ -24,9 +18,6 @@ returns c =
     let v = n .before in
     let a = v .before .before .args in
     rw (ne-eqb (switchingRefusal (a .run .grid)) 0 (λ e. omega (arith, c .if1 .taken, n .number .ensures ∙ v .check-switching .ensures ∙ e)))
-
-total-steps-requires : tie.Need-total-steps-requires
-total-steps-requires c κs = search needs
 
 returns-2 : tie.Need-returns-2
 unfolding switchingRunRefused
@@ -39,6 +30,4 @@ returns-2 c =
     rw (eq-eqb (switchingRefusal (a .run .grid)) 0 z, t .total-steps .ensures, step-claims .counted (stepsOf (a .run .grid)) (accepted-claims .switching (a .run .grid) z))
 
 pub switching-run-refused-spec : {M : Type 1} → statement M
-switching-run-refused-spec =
-    tie.close
-    (tie.spec check-switching-requires number-requires returns total-steps-requires returns-2)
+switching-run-refused-spec = tie.close (tie.spec (λ c κs. search needs) (λ c κs. search needs) returns (λ c κs. search needs) returns-2)

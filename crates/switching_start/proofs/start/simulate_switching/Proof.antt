@@ -8,15 +8,6 @@ use borrow.Author.Needs.{needs}
 use Rattle.switching_start.proofs.start.simulate_switching.Statement.{statement}
 use Rattle.switching_start.proofs.start.simulate_switching.Tie as tie
 
-check-switching-requires : tie.Need-check-switching-requires
-check-switching-requires c κs = search needs
-
-number-requires : tie.Need-number-requires
-number-requires c κs = search needs
-
-first-switching-variables-requires : tie.Need-first-switching-variables-requires
-first-switching-variables-requires c κs = search needs
-
 returns : tie.Need-returns
 unfolding startedSwitchingRun switchingAfter
 returns c =
@@ -24,9 +15,6 @@ returns c =
     let a = n .before .before .args in
     let v = n .before .check-switching .ensures in
     (v, rw (eq-eqb (switchingRefusal (a .g)) 0 (sym v ∙ sym (n .number .ensures) ∙ c .before .if1 .taken), c .first-switching-variables .ensures))
-
-blank-switching-run-requires : tie.Need-blank-switching-run-requires
-blank-switching-run-requires c κs = search needs
 
 returns-2 : tie.Need-returns-2
 unfolding startedSwitchingRun
@@ -37,12 +25,4 @@ returns-2 c =
     (v, rw (ne-eqb (switchingRefusal (a .g)) 0 (λ e. c .before .if1 .left (n .number .ensures ∙ v ∙ e)), c .blank-switching-run .ensures))
 
 pub simulate-switching-spec : {M : Type 1} → statement M
-simulate-switching-spec =
-    tie.close
-    (tie.spec
-    check-switching-requires
-    number-requires
-    first-switching-variables-requires
-    returns
-    blank-switching-run-requires
-    returns-2)
+simulate-switching-spec = tie.close (tie.spec (λ c κs. search needs) (λ c κs. search needs) (λ c κs. search needs) returns (λ c κs. search needs) returns-2)

@@ -4,12 +4,6 @@ use borrow.Author.Needs.{needs}
 use Rattle.switching_step.proofs.switching.interrupt.Statement.{statement}
 use Rattle.switching_step.proofs.switching.interrupt.Tie as tie
 
-present-requires : tie.Need-present-requires
-present-requires c κs = search needs
-
-present-requires-2 : tie.Need-present-requires-2
-present-requires-2 c κs = search needs
-
 halve-currents-requires : tie.Need-halve-currents-requires
 halve-currents-requires c κs = (omega (arith, c .before .present .ensures), omega (arith, c .present2 .ensures))
 
@@ -20,6 +14,4 @@ returns-2 : tie.Need-returns-2
 returns-2 c = rw (c .if1 .left)
 
 pub interrupt-spec : {M : Type 1} → statement M
-interrupt-spec =
-    tie.close
-    (tie.spec present-requires present-requires-2 halve-currents-requires returns returns-2)
+interrupt-spec = tie.close (tie.spec (λ c κs. search needs) (λ c κs. search needs) halve-currents-requires returns returns-2)

@@ -4,9 +4,6 @@ use borrow.Author.Needs.{needs}
 use Rattle.switching_step.proofs.switching.operate.Statement.{statement}
 use Rattle.switching_step.proofs.switching.operate.Tie as tie
 
-present-requires : tie.Need-present-requires
-present-requires c κs = search needs
-
 set-operated-requires : tie.Need-set-operated-requires
 set-operated-requires c κs = omega (arith, c .present .ensures)
 
@@ -17,4 +14,4 @@ returns-2 : tie.Need-returns-2
 returns-2 c = rw (c .if1 .left)
 
 pub operate-spec : {M : Type 1} → statement M
-operate-spec = tie.close (tie.spec present-requires set-operated-requires returns returns-2)
+operate-spec = tie.close (tie.spec (λ c κs. search needs) set-operated-requires returns returns-2)

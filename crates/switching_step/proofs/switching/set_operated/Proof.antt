@@ -20,21 +20,6 @@ abbrev μ-loop : tie.MeasureT-loop
 loop-holds : tie.Need-loop-holds Inv-loop μ-loop
 loop-holds c = (omega arith, upto-none _ _)
 
-element-copy-out-operated : tie.Need-element-copy-out-operated Inv-loop μ-loop
-element-copy-out-operated c = search needs
-
-operated-requires : tie.Need-operated-requires Inv-loop μ-loop
-operated-requires c κs = search needs
-
-element-write-breakers : tie.Need-element-write-breakers Inv-loop μ-loop
-element-write-breakers c = search needs
-
-add-i : tie.Need-add-i Inv-loop μ-loop
-add-i c = search needs
-
-loop-less : tie.Need-loop-less Inv-loop μ-loop
-loop-less c = search needs
-
 loop-again : tie.Need-loop-again Inv-loop μ-loop
 loop-again c =
     let l = c .before .before .before in
@@ -51,13 +36,5 @@ pub set-operated-spec : {M : Type 1} → statement M
 set-operated-spec =
     tie.close
     (tie.spec
-    Inv-loop
-    μ-loop
-    loop-holds
-    element-copy-out-operated
-    operated-requires
-    element-write-breakers
-    add-i
-    loop-less
-    loop-again
+    Inv-loop μ-loop loop-holds (λ c. search needs) (λ c κs. search needs) (λ c. search needs) (λ c. search needs) (λ c. search needs) loop-again
     returns)

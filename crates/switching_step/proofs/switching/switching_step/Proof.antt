@@ -5,21 +5,6 @@ use borrow.Author.Needs.{needs}
 use Rattle.switching_step.proofs.switching.switching_step.Statement.{statement}
 use Rattle.switching_step.proofs.switching.switching_step.Tie as tie
 
-step-time-ms-requires : tie.Need-step-time-ms-requires
-step-time-ms-requires c κs = search needs
-
-operate-requires : tie.Need-operate-requires
-operate-requires c κs = search needs
-
-interrupt-requires : tie.Need-interrupt-requires
-interrupt-requires c κs = search needs
-
-no-drain-requires : tie.Need-no-drain-requires
-no-drain-requires c κs = search needs
-
-rk4-step-requires : tie.Need-rk4-step-requires
-rk4-step-requires c κs = search needs
-
 returns : tie.Need-returns
 unfolding switchingPlanStep switchBody operatedState
 returns c =
@@ -30,12 +15,4 @@ returns c =
     rw (r .rk4-step .ensures, r .before .before .no-drain .ensures, i .interrupt .ensures, o .operate .ensures, q .step-time-ms .ensures)
 
 pub switching-step-spec : {M : Type 1} → statement M
-switching-step-spec =
-    tie.close
-    (tie.spec
-    step-time-ms-requires
-    operate-requires
-    interrupt-requires
-    no-drain-requires
-    rk4-step-requires
-    returns)
+switching-step-spec = tie.close (tie.spec (λ c κs. search needs) (λ c κs. search needs) (λ c κs. search needs) (λ c κs. search needs) (λ c κs. search needs) returns)

@@ -5,57 +5,6 @@ use borrow.Author.Needs.{needs}
 use Rattle.taken_lines.proofs.taken.contents_with.Statement.{statement}
 use Rattle.taken_lines.proofs.taken.contents_with.Tie as tie
 
-counted-on-requires : tie.Need-counted-on-requires
-counted-on-requires c κs = search needs
-
-enum-known-line : tie.Need-enum-known-line
-enum-known-line c = search needs
-
-new-requires : tie.Need-new-requires
-new-requires c κs = search needs
-
-enum-known-line-2 : tie.Need-enum-known-line-2
-enum-known-line-2 c = search needs
-
-enum-known-line-3 : tie.Need-enum-known-line-3
-enum-known-line-3 c = search needs
-
-check-station-requires : tie.Need-check-station-requires
-check-station-requires c κs = search needs
-
-with-station-requires : tie.Need-with-station-requires
-with-station-requires c κs = search needs
-
-first-of-requires : tie.Need-first-of-requires
-first-of-requires c κs = search needs
-
-enum-known-line-4 : tie.Need-enum-known-line-4
-enum-known-line-4 c = search needs
-
-check-cable-requires : tie.Need-check-cable-requires
-check-cable-requires c κs = search needs
-
-with-cable-requires : tie.Need-with-cable-requires
-with-cable-requires c κs = search needs
-
-first-of-requires-2 : tie.Need-first-of-requires-2
-first-of-requires-2 c κs = search needs
-
-enum-known-line-5 : tie.Need-enum-known-line-5
-enum-known-line-5 c = search needs
-
-check-breaker-requires : tie.Need-check-breaker-requires
-check-breaker-requires c κs = search needs
-
-with-breaker-requires : tie.Need-with-breaker-requires
-with-breaker-requires c κs = search needs
-
-first-of-requires-3 : tie.Need-first-of-requires-3
-first-of-requires-3 c κs = search needs
-
-enum-told : tie.Need-enum-told
-enum-told c = search needs
-
 returns : tie.Need-returns
 returns c = times-way _ _ _ _ (c .before .before .line .given .1) _ (c .new .ensures)
 
@@ -78,26 +27,7 @@ pub contents-with-spec : {M : Type 1} → statement M
 contents-with-spec =
     tie.close
     (tie.spec
-    counted-on-requires
-    enum-known-line
-    new-requires
-    enum-known-line-2
-    enum-known-line-3
-    check-station-requires
-    with-station-requires
-    first-of-requires
-    enum-known-line-4
-    check-cable-requires
-    with-cable-requires
-    first-of-requires-2
-    enum-known-line-5
-    check-breaker-requires
-    with-breaker-requires
-    first-of-requires-3
-    enum-told
-    returns
-    returns-2
-    returns-3
-    returns-4
-    returns-5
-    returns-6)
+    (λ c κs. search needs) (λ c. search needs) (λ c κs. search needs) (λ c. search needs) (λ c. search needs) (λ c κs. search needs)
+    (λ c κs. search needs) (λ c κs. search needs) (λ c. search needs) (λ c κs. search needs) (λ c κs. search needs) (λ c κs. search needs)
+    (λ c. search needs) (λ c κs. search needs) (λ c κs. search needs) (λ c κs. search needs) (λ c. search needs) returns returns-2 returns-3 returns-4
+    returns-5 returns-6)

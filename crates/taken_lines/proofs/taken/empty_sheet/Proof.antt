@@ -5,12 +5,9 @@ use borrow.Author.Needs.{needs}
 use Rattle.taken_lines.proofs.taken.empty_sheet.Statement.{statement}
 use Rattle.taken_lines.proofs.taken.empty_sheet.Tie as tie
 
-new-requires : tie.Need-new-requires
-new-requires c κs = search needs
-
 returns : tie.Need-returns
 unfolding emptySheet
 returns c = rw (c .new .ensures)
 
 pub empty-sheet-spec : {M : Type 1} → statement M
-empty-sheet-spec = tie.close (tie.spec new-requires returns)
+empty-sheet-spec = tie.close (tie.spec (λ c κs. search needs) returns)

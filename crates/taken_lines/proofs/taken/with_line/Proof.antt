@@ -5,23 +5,8 @@ use borrow.Author.Needs.{needs}
 use Rattle.taken_lines.proofs.taken.with_line.Statement.{statement}
 use Rattle.taken_lines.proofs.taken.with_line.Tie as tie
 
-has-stopped-requires : tie.Need-has-stopped-requires
-has-stopped-requires c κs = search needs
-
 returns : tie.Need-returns
 returns c = stopped-way _ _ (sym (c .before .has-stopped .ensures) ∙ c .if1 .taken)
-
-place-of-requires : tie.Need-place-of-requires
-place-of-requires c κs = search needs
-
-line-refusal-requires : tie.Need-line-refusal-requires
-line-refusal-requires c κs = search needs
-
-contents-with-requires : tie.Need-contents-with-requires
-contents-with-requires c κs = search needs
-
-counted-on-requires : tie.Need-counted-on-requires
-counted-on-requires c κs = search needs
 
 returns-2 : tie.Need-returns-2
 returns-2 c = taken-way _ _ (sym (c .before .before .before .before .before .before .has-stopped .ensures) ∙ c .before .before .before .before .before .if1 .left) _ (c .before .before .before .before .place-of .ensures) _ (c .before .before .before .line-refusal .ensures) (c .before .before .if2 .taken) _ (c .before .contents-with .ensures) _ (c .counted-on .ensures)
@@ -33,11 +18,4 @@ pub with-line-spec : {M : Type 1} → statement M
 with-line-spec =
     tie.close
     (tie.spec
-    has-stopped-requires
-    returns
-    place-of-requires
-    line-refusal-requires
-    contents-with-requires
-    counted-on-requires
-    returns-2
-    returns-3)
+    (λ c κs. search needs) returns (λ c κs. search needs) (λ c κs. search needs) (λ c κs. search needs) (λ c κs. search needs) returns-2 returns-3)

@@ -10,27 +10,6 @@ use Rattle.timing.proofs.steps.record_length.Tie as tie
 numbers : {s c b s' c' b' : ℕ} → s ≡ s' → c ≡ c' → b ≡ b' → 2 + 2 * s + c + b ≡ 2 + s' + s' + c' + b'
 numbers p q r = omega arith
 
-present-requires : tie.Need-present-requires
-present-requires c κs = search needs
-
-mul-result : tie.Need-mul-result
-mul-result c = search needs
-
-add-result : tie.Need-add-result
-add-result c = search needs
-
-present-requires-2 : tie.Need-present-requires-2
-present-requires-2 c κs = search needs
-
-add-result-2 : tie.Need-add-result-2
-add-result-2 c = search needs
-
-present-requires-3 : tie.Need-present-requires-3
-present-requires-3 c κs = search needs
-
-add-result-3 : tie.Need-add-result-3
-add-result-3 c = search needs
-
 returns : tie.Need-returns
 returns c =
     let a = c .before .before .before .args in
@@ -40,11 +19,5 @@ pub record-length-spec : {M : Type 1} → statement M
 record-length-spec =
     tie.close
     (tie.spec
-    present-requires
-    mul-result
-    add-result
-    present-requires-2
-    add-result-2
-    present-requires-3
-    add-result-3
-    returns)
+    (λ c κs. search needs) (λ c. search needs) (λ c. search needs) (λ c κs. search needs) (λ c. search needs) (λ c κs. search needs)
+    (λ c. search needs) returns)

@@ -8,17 +8,8 @@ use Rattle.timing.proofs.steps.recorded_steps.Tie as tie
 returns : tie.Need-returns
 returns c = no-records _ (c .if1 .taken)
 
-record-interval-requires : tie.Need-record-interval-requires
-record-interval-requires c κs = search needs
-
-div-multiples : tie.Need-div-multiples
-div-multiples c = search needs
-
 add-multiples : tie.Need-add-multiples
 add-multiples c = record { fits = rw (c .record-interval .ensures) (let h = multiples-few (c .before .before .args .total-steps) (c .before .if1 .left) in omega (arith, h, c .before .before .fits)) }
-
-rem-if2 : tie.Need-rem-if2
-rem-if2 c = search needs
 
 add-result : tie.Need-add-result
 add-result c = record { fits = rw (c .before .record-interval .ensures) (let h = few (c .before .before .before .args .total-steps) (c .before .before .if1 .left) (rw (c .before .record-interval .ensures) at (c .if2 .left)) in omega (arith, h, c .before .before .before .fits)) }
@@ -30,14 +21,4 @@ returns-3 : tie.Need-returns-3
 returns-3 c = let e = c .before .record-interval .ensures in rw e (some-left _ (c .before .before .if1 .left) (rw e at (c .if2 .left)))
 
 pub recorded-steps-spec : {M : Type 1} → statement M
-recorded-steps-spec =
-    tie.close
-    (tie.spec
-    returns
-    record-interval-requires
-    div-multiples
-    add-multiples
-    rem-if2
-    add-result
-    returns-2
-    returns-3)
+recorded-steps-spec = tie.close (tie.spec returns (λ c κs. search needs) (λ c. search needs) add-multiples (λ c. search needs) add-result returns-2 returns-3)

@@ -5,14 +5,8 @@ use Rattle.timing.proofs.Stepping.{past-limit, single-step, cast-whole,
 use Rattle.timing.proofs.steps.steps_up_to_limit.Statement.{statement}
 use Rattle.timing.proofs.steps.steps_up_to_limit.Tie as tie
 
-add-result : tie.Need-add-result
-add-result c = search needs
-
 returns : tie.Need-returns
 returns c = past-limit _ (c .if1 .taken)
-
-whole-part-requires : tie.Need-whole-part-requires
-whole-part-requires c κs = search needs
 
 float-to-int-n : tie.Need-float-to-int-n
 float-to-int-n c = rw (c .before .whole-part .ensures) (cast-whole _ (c .before .before .if2 .taken) (c .before .before .before .if1 .left))
@@ -30,14 +24,4 @@ returns-4 : tie.Need-returns-4
 returns-4 c = single-step _ (c .if2 .left) (c .before .if1 .left)
 
 pub steps-up-to-limit-spec : {M : Type 1} → statement M
-steps-up-to-limit-spec =
-    tie.close
-    (tie.spec
-    add-result
-    returns
-    whole-part-requires
-    float-to-int-n
-    add-result-2
-    returns-2
-    returns-3
-    returns-4)
+steps-up-to-limit-spec = tie.close (tie.spec (λ c. search needs) returns (λ c κs. search needs) float-to-int-n add-result-2 returns-2 returns-3 returns-4)

@@ -3,11 +3,8 @@ use borrow.Author.Needs.{needs}
 use Rattle.timing.proofs.steps.time_step_ms.Statement.{statement}
 use Rattle.timing.proofs.steps.time_step_ms.Tie as tie
 
-max-requires : tie.Need-max-requires
-max-requires c κs = search needs
-
 returns : tie.Need-returns
 returns c = rw (c .max .ensures)
 
 pub time-step-ms-spec : {M : Type 1} → statement M
-time-step-ms-spec = tie.close (tie.spec max-requires returns)
+time-step-ms-spec = tie.close (tie.spec (λ c κs. search needs) returns)

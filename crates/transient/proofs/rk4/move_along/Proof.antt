@@ -22,30 +22,6 @@ loop-holds : tie.Need-loop-holds Inv-loop μ-loop
 unfolding blank
 loop-holds c = (omega arith, upto-none _ _)
 
-mul-out : tie.Need-mul-out Inv-loop μ-loop
-mul-out c = search needs
-
-array-read-out : tie.Need-array-read-out Inv-loop μ-loop
-array-read-out c = search needs
-
-mul-out-2 : tie.Need-mul-out-2 Inv-loop μ-loop
-mul-out-2 c = search needs
-
-array-read-out-2 : tie.Need-array-read-out-2 Inv-loop μ-loop
-array-read-out-2 c = search needs
-
-mul-out-3 : tie.Need-mul-out-3 Inv-loop μ-loop
-mul-out-3 c = search needs
-
-array-write-out : tie.Need-array-write-out Inv-loop μ-loop
-array-write-out c = search needs
-
-add-i : tie.Need-add-i Inv-loop μ-loop
-add-i c = search needs
-
-loop-less : tie.Need-loop-less Inv-loop μ-loop
-loop-less c = search needs
-
 loop-again : tie.Need-loop-again Inv-loop μ-loop
 loop-again c =
     (omega arith, upto-more _ _ _ (c .before .loop .inv .1) refl)
@@ -62,16 +38,5 @@ pub move-along-spec : {M : Type 1} → statement M
 move-along-spec =
     tie.close
     (tie.spec
-    Inv-loop
-    μ-loop
-    loop-holds
-    mul-out
-    array-read-out
-    mul-out-2
-    array-read-out-2
-    mul-out-3
-    array-write-out
-    add-i
-    loop-less
-    loop-again
-    returns)
+    Inv-loop μ-loop loop-holds (λ c. search needs) (λ c. search needs) (λ c. search needs) (λ c. search needs) (λ c. search needs) (λ c. search needs)
+    (λ c. search needs) (λ c. search needs) loop-again returns)

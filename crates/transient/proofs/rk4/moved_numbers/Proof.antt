@@ -20,24 +20,6 @@ use Rattle.transient.proofs.rk4.moved_numbers.Tie as tie
 sized : (p : tie.After-present2) → (p .before .present .result ≤ 32) × (p .present2 .result ≤ 64)
 sized p = (omega (arith, p .before .present .ensures), omega (arith, p .present2 .ensures))
 
-state-derivatives-requires : tie.Need-state-derivatives-requires
-state-derivatives-requires c κs = search needs
-
-slopes-ahead-requires : tie.Need-slopes-ahead-requires
-slopes-ahead-requires c κs = search needs
-
-slopes-ahead-requires-2 : tie.Need-slopes-ahead-requires-2
-slopes-ahead-requires-2 c κs = search needs
-
-slopes-ahead-requires-3 : tie.Need-slopes-ahead-requires-3
-slopes-ahead-requires-3 c κs = search needs
-
-present-requires : tie.Need-present-requires
-present-requires c κs = search needs
-
-present-requires-2 : tie.Need-present-requires-2
-present-requires-2 c κs = search needs
-
 add-blend : tie.Need-add-blend
 add-blend c = let z = sized c in omega (arith, z .0, z .1)
 
@@ -80,13 +62,5 @@ pub moved-numbers-spec : {M : Type 1} → statement M
 moved-numbers-spec =
     tie.close
     (tie.spec
-    state-derivatives-requires
-    slopes-ahead-requires
-    slopes-ahead-requires-2
-    slopes-ahead-requires-3
-    present-requires
-    present-requires-2
-    add-blend
-    blend-requires
-    raise-voltages-requires
-    returns)
+    (λ c κs. search needs) (λ c κs. search needs) (λ c κs. search needs) (λ c κs. search needs) (λ c κs. search needs) (λ c κs. search needs)
+    add-blend blend-requires raise-voltages-requires returns)

@@ -9,12 +9,6 @@ use borrow.Author.Needs.{needs}
 use Rattle.transient.proofs.rk4.rk4_step.Statement.{statement}
 use Rattle.transient.proofs.rk4.rk4_step.Tie as tie
 
-moved-numbers-requires : tie.Need-moved-numbers-requires
-moved-numbers-requires c κs = search needs
-
-net-currents-requires : tie.Need-net-currents-requires
-net-currents-requires c κs = search needs
-
 returns : tie.Need-returns
 unfolding stepBy
 returns c =
@@ -33,4 +27,4 @@ returns c =
     }
 
 pub rk4-step-spec : {M : Type 1} → statement M
-rk4-step-spec = tie.close (tie.spec moved-numbers-requires net-currents-requires returns)
+rk4-step-spec = tie.close (tie.spec (λ c κs. search needs) (λ c κs. search needs) returns)

@@ -10,20 +10,11 @@ use borrow.Author.Needs.{needs}
 use Rattle.transient.proofs.rk4.slopes_ahead.Statement.{statement}
 use Rattle.transient.proofs.rk4.slopes_ahead.Tie as tie
 
-present-requires : tie.Need-present-requires
-present-requires c κs = search needs
-
-present-requires-2 : tie.Need-present-requires-2
-present-requires-2 c κs = search needs
-
 add-size : tie.Need-add-size
 add-size c = omega (arith, c .before .present .ensures, c .present2 .ensures)
 
 move-along-requires : tie.Need-move-along-requires
 move-along-requires c κs = omega (arith, c .before .present .ensures, c .present2 .ensures)
-
-state-derivatives-requires : tie.Need-state-derivatives-requires
-state-derivatives-requires c κs = search needs
 
 returns : tie.Need-returns
 returns c =
@@ -31,6 +22,4 @@ returns c =
     c .state-derivatives .ensures ∙ rw (c .before .move-along .ensures, p .before .present .ensures, p .present2 .ensures)
 
 pub slopes-ahead-spec : {M : Type 1} → statement M
-slopes-ahead-spec =
-    tie.close
-    (tie.spec present-requires present-requires-2 add-size move-along-requires state-derivatives-requires returns)
+slopes-ahead-spec = tie.close (tie.spec (λ c κs. search needs) (λ c κs. search needs) add-size move-along-requires (λ c κs. search needs) returns)

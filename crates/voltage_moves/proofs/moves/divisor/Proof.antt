@@ -13,31 +13,10 @@ use Rattle.voltage_moves.proofs.moves.divisor.Tie as tie
 add-products-requires : tie.Need-add-products-requires
 add-products-requires c κs = (omega arith, omega arith, omega arith, inl (omega arith), refl)
 
-add-add-products : tie.Need-add-add-products
-add-add-products c = search needs
-
 add-products-requires-2 : tie.Need-add-products-requires-2
 add-products-requires-2 c κs =
     let a = c .before .args in
     (omega arith, omega arith, omega arith, inr (omega arith), c .add-products .ensures ∙ without-self (a .i) (λ k. cell (a .m .now) (a .i) k ⊗ of (a .v .now) k))
-
-mul-result : tie.Need-mul-result
-mul-result c = search needs
-
-add-result : tie.Need-add-result
-add-result c = search needs
-
-mul-result-2 : tie.Need-mul-result-2
-mul-result-2 c = search needs
-
-element-copy-out-result : tie.Need-element-copy-out-result
-element-copy-out-result c = search needs
-
-mul-result-3 : tie.Need-mul-result-3
-mul-result-3 c = search needs
-
-element-copy-out-result-2 : tie.Need-element-copy-out-result-2
-element-copy-out-result-2 c = search needs
 
 returns : tie.Need-returns
 unfolding divisor
@@ -47,13 +26,5 @@ pub divisor-spec : {M : Type 1} → statement M
 divisor-spec =
     tie.close
     (tie.spec
-    add-products-requires
-    add-add-products
-    add-products-requires-2
-    mul-result
-    add-result
-    mul-result-2
-    element-copy-out-result
-    mul-result-3
-    element-copy-out-result-2
-    returns)
+    add-products-requires (λ c. search needs) add-products-requires-2 (λ c. search needs) (λ c. search needs) (λ c. search needs) (λ c. search needs)
+    (λ c. search needs) (λ c. search needs) returns)

@@ -4,9 +4,6 @@ use borrow.Author.Needs.{needs}
 use Rattle.voltage_moves.proofs.moves.moved.Statement.{statement}
 use Rattle.voltage_moves.proofs.moves.moved.Tie as tie
 
-abs-requires : tie.Need-abs-requires
-abs-requires c κs = search needs
-
 returns : tie.Need-returns
 unfolding moved
 returns c = rw (← c .before .abs .ensures, c .if1 .taken)
@@ -16,4 +13,4 @@ unfolding moved
 returns-2 c = rw (← c .before .abs .ensures, c .if1 .left)
 
 pub moved-spec : {M : Type 1} → statement M
-moved-spec = tie.close (tie.spec abs-requires returns returns-2)
+moved-spec = tie.close (tie.spec (λ c κs. search needs) returns returns-2)

@@ -27,15 +27,6 @@ figured : (g : DcSwitchingSimulator) (v : FaultVariables) (b : Bool)
 figured g v true = by-test (v .«fault_cleared») (λ h. rw h) (λ h. rw h)
 figured g v false = refl
 
-total-steps-requires : tie.Need-total-steps-requires
-total-steps-requires c κs = search needs
-
-duration-ms-requires : tie.Need-duration-ms-requires
-duration-ms-requires c κs = search needs
-
-clearing-time-requires : tie.Need-clearing-time-requires
-clearing-time-requires c κs = search needs
-
 returns : tie.Need-returns
 unfolding faultFigures
 returns c =
@@ -44,5 +35,4 @@ returns c =
     rw (c .clearing-time .ensures, c .before .duration-ms .ensures, t .total-steps .ensures) (figured (a .self .grid) (a .self .variables) (eqb (a .self .«steps_made») (countedTo (stepsOf (a .self .grid)))))
 
 pub figures-spec : {M : Type 1} → statement M
-figures-spec =
-    tie.close (tie.spec total-steps-requires duration-ms-requires clearing-time-requires returns)
+figures-spec = tie.close (tie.spec (λ c κs. search needs) (λ c κs. search needs) (λ c κs. search needs) returns)

@@ -38,29 +38,14 @@ counted c =
     let t = i .before in
     few-steps _ _ _ (t .before .loop .inv) (t .loop-test .taken) _ refl (i .if2 .left) (c .steps-left-open .result) (c .steps-left-open .ensures)
 
-is-broken-requires : tie.Need-is-broken-requires Inv-loop μ-loop
-is-broken-requires c κs = search needs
-
 returns : tie.Need-returns Inv-loop μ-loop
 returns c = returned (came-refused sweepStepper _ _ _ (sym (c .before .is-broken .ensures) ∙ c .if1 .taken))
-
-total-steps-requires : tie.Need-total-steps-requires Inv-loop μ-loop
-total-steps-requires c κs = search needs
-
-case-count-requires : tie.Need-case-count-requires Inv-loop μ-loop
-case-count-requires c κs = search needs
 
 sub-closes : tie.Need-sub-closes Inv-loop μ-loop
 sub-closes c =
     let n = c .before .before in
     let i = n .before .before .before .before in
     omega (arith, some-left (i .before .before .before .args .self) (sym (i .before .is-broken .ensures) ∙ i .if1 .left) _ (n .total-steps .ensures))
-
-common-of-requires : tie.Need-common-of-requires Inv-loop μ-loop
-common-of-requires c κs = search needs
-
-no-cable-ends-requires : tie.Need-no-cable-ends-requires Inv-loop μ-loop
-no-cable-ends-requires c κs = search needs
 
 loop-holds : tie.Need-loop-holds Inv-loop μ-loop
 loop-holds c =
@@ -107,9 +92,6 @@ add-steps c =
 add-k : tie.Need-add-k Inv-loop μ-loop
 add-k c = omega (arith, c .before .before .before .before .before .before .before .loop-test .taken)
 
-open-case-requires : tie.Need-open-case-requires Inv-loop μ-loop
-open-case-requires c κs = search needs
-
 loop-less : tie.Need-loop-less Inv-loop μ-loop
 loop-less c = omega (arith, c .before .before .before .before .before .before .before .before .loop-test .taken)
 
@@ -129,14 +111,8 @@ steps-left-open-requires c κs = tt
 add-end : tie.Need-add-end Inv-loop μ-loop
 add-end c = omega (arith, counted c .0)
 
-make-steps-requires : tie.Need-make-steps-requires Inv-loop μ-loop
-make-steps-requires c κs = search needs
-
 add-steps-end : tie.Need-add-steps-end Inv-loop μ-loop
 add-steps-end c = omega (arith, counted (c .before) .1, start (c .before .before .before .before) .fits .allowance)
-
-reason-requires : tie.Need-reason-requires Inv-loop μ-loop
-reason-requires c κs = search needs
 
 same-length : tie.Need-same-length Inv-loop μ-loop
 same-length c = c .before .before .before .before .before .loop .inv .going .same-length
@@ -159,34 +135,7 @@ pub advance-spec : {M : Type 1} → statement M
 advance-spec =
     tie.close
     (tie.spec
-    Inv-loop
-    μ-loop
-    is-broken-requires
-    returns
-    total-steps-requires
-    case-count-requires
-    sub-closes
-    common-of-requires
-    no-cable-ends-requires
-    loop-holds
-    sub-left
-    sub-allowed
-    sub-ends-held
-    ends-held-requires
-    closed-outcome-requires
-    put-case-requires
-    add-out
-    add-steps
-    add-k
-    open-case-requires
-    loop-less
-    loop-again
-    steps-left-open-requires
-    add-end
-    make-steps-requires
-    add-steps-end
-    reason-requires
-    same-length
-    returns-2
-    same-length-2
-    returns-3)
+    Inv-loop μ-loop (λ c κs. search needs) returns (λ c κs. search needs) (λ c κs. search needs) sub-closes (λ c κs. search needs)
+    (λ c κs. search needs) loop-holds sub-left sub-allowed sub-ends-held ends-held-requires closed-outcome-requires put-case-requires add-out
+    add-steps add-k (λ c κs. search needs) loop-less loop-again steps-left-open-requires add-end (λ c κs. search needs) add-steps-end
+    (λ c κs. search needs) same-length returns-2 same-length-2 returns-3)

@@ -6,15 +6,6 @@ use borrow.Author.Needs.{needs}
 use Rattle.grid.proofs.simulator.DcSwitchingSimulator.add_breaker.Statement.{statement}
 use Rattle.grid.proofs.simulator.DcSwitchingSimulator.add_breaker.Tie as tie
 
-mul-breaker : tie.Need-mul-breaker
-mul-breaker c = search needs
-
-element-set-from-breaker : tie.Need-element-set-from-breaker
-element-set-from-breaker c = search needs
-
-add-grid : tie.Need-add-grid
-add-grid c = search needs
-
 returns : tie.Need-returns
 unfolding withBreaker
 returns c = rw (lt-ltb (c .before .args .self .«n_breakers») 32 (omega (arith, c .if1 .taken)))
@@ -24,5 +15,4 @@ unfolding withBreaker
 returns-2 c = rw (le-ltb (c .before .args .self .«n_breakers») 32 (omega (arith, c .if1 .left)))
 
 pub add-breaker-spec : {M : Type 1} → statement M
-add-breaker-spec =
-    tie.close (tie.spec mul-breaker element-set-from-breaker add-grid returns returns-2)
+add-breaker-spec = tie.close (tie.spec (λ c. search needs) (λ c. search needs) (λ c. search needs) returns returns-2)

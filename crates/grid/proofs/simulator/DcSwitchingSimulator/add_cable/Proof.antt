@@ -6,15 +6,6 @@ use borrow.Author.Needs.{needs}
 use Rattle.grid.proofs.simulator.DcSwitchingSimulator.add_cable.Statement.{statement}
 use Rattle.grid.proofs.simulator.DcSwitchingSimulator.add_cable.Tie as tie
 
-mul-cable : tie.Need-mul-cable
-mul-cable c = search needs
-
-element-set-from-cable : tie.Need-element-set-from-cable
-element-set-from-cable c = search needs
-
-add-grid : tie.Need-add-grid
-add-grid c = search needs
-
 returns : tie.Need-returns
 unfolding withCable
 returns c = rw (lt-ltb (c .before .args .self .«n_cables») 64 (omega (arith, c .if1 .taken)))
@@ -24,4 +15,4 @@ unfolding withCable
 returns-2 c = rw (le-ltb (c .before .args .self .«n_cables») 64 (omega (arith, c .if1 .left)))
 
 pub add-cable-spec : {M : Type 1} → statement M
-add-cable-spec = tie.close (tie.spec mul-cable element-set-from-cable add-grid returns returns-2)
+add-cable-spec = tie.close (tie.spec (λ c. search needs) (λ c. search needs) (λ c. search needs) returns returns-2)

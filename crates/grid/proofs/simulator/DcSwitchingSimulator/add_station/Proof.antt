@@ -6,15 +6,6 @@ use borrow.Author.Needs.{needs}
 use Rattle.grid.proofs.simulator.DcSwitchingSimulator.add_station.Statement.{statement}
 use Rattle.grid.proofs.simulator.DcSwitchingSimulator.add_station.Tie as tie
 
-mul-station : tie.Need-mul-station
-mul-station c = search needs
-
-element-set-from-station : tie.Need-element-set-from-station
-element-set-from-station c = search needs
-
-add-grid : tie.Need-add-grid
-add-grid c = search needs
-
 returns : tie.Need-returns
 unfolding withStation
 returns c = rw (lt-ltb (c .before .args .self .«n_stations») 32 (omega (arith, c .if1 .taken)))
@@ -24,5 +15,4 @@ unfolding withStation
 returns-2 c = rw (le-ltb (c .before .args .self .«n_stations») 32 (omega (arith, c .if1 .left)))
 
 pub add-station-spec : {M : Type 1} → statement M
-add-station-spec =
-    tie.close (tie.spec mul-station element-set-from-station add-grid returns returns-2)
+add-station-spec = tie.close (tie.spec (λ c. search needs) (λ c. search needs) (λ c. search needs) returns returns-2)

@@ -39,26 +39,11 @@ loop-again c =
     let p = c .before .before .put-if-recorded .ensures in
     goes _ (head c .loop .inv) (t .before .is-recorded .result) (t .before .is-recorded .ensures) (t .if2 .left) _ (s .switching-step .ensures) _ (p .0) _ (p .1)
 
-switching-run-refused-requires : tie.Need-switching-run-refused-requires Inv-loop μ-loop
-switching-run-refused-requires c κs = search needs
-
 returns : tie.Need-returns Inv-loop μ-loop
 returns c = returned (came-refused switchingStepper _ _ _ (sym (c .before .switching-run-refused .ensures) ∙ c .if1 .taken))
 
-total-steps-requires : tie.Need-total-steps-requires Inv-loop μ-loop
-total-steps-requires c κs = search needs
-
-record-length-requires : tie.Need-record-length-requires Inv-loop μ-loop
-record-length-requires c κs = search needs
-
 div-space : tie.Need-div-space Inv-loop μ-loop
 div-space c = omega (arith, c .record-length .ensures)
-
-record-counts-requires : tie.Need-record-counts-requires Inv-loop μ-loop
-record-counts-requires c κs = search needs
-
-switching-plan-requires : tie.Need-switching-plan-requires Inv-loop μ-loop
-switching-plan-requires c κs = search needs
 
 loop-holds : tie.Need-loop-holds Inv-loop μ-loop
 loop-holds c =
@@ -68,12 +53,6 @@ loop-holds c =
     let h = sym (q .before .switching-run-refused .ensures) ∙ q .if1 .left in
     inside (switchingKind (s .grid) (s .«breaker_id») (s .«open»)) _ _ _ _ _ _ _ _ (ready s h) (p .before .before .before .total-steps .ensures) (p .before .before .record-length .ensures) (p .before .record-counts .ensures) (by-plan s h (p .switching-plan .result) (p .switching-plan .ensures))
 
-is-recorded-requires : tie.Need-is-recorded-requires Inv-loop μ-loop
-is-recorded-requires c κs = search needs
-
-reason-requires : tie.Need-reason-requires Inv-loop μ-loop
-reason-requires c κs = search needs
-
 same-length : tie.Need-same-length Inv-loop μ-loop
 same-length c = c .before .before .before .loop .inv .going .same-length
 
@@ -82,16 +61,10 @@ returns-2 c =
     let r = c .before .before in
     rw (c .reason .ensures) (returned (leaves _ (r .before .loop .inv) (r .is-recorded .result) (r .is-recorded .ensures) (c .before .if2 .taken)))
 
-switching-step-requires : tie.Need-switching-step-requires Inv-loop μ-loop
-switching-step-requires c κs = search needs
-
 mul-put-if-recorded : tie.Need-mul-put-if-recorded Inv-loop μ-loop
 mul-put-if-recorded c =
     let l = c .before .before .before .before in
     omega (arith, position _ (l .loop .inv), start l .good .1 .1 .0)
-
-put-if-recorded-requires : tie.Need-put-if-recorded-requires Inv-loop μ-loop
-put-if-recorded-requires c κs = search needs
 
 add-out : tie.Need-add-out Inv-loop μ-loop
 add-out c = omega (arith, out-ok _ (loop-again c), start (head c) .good .1 .1 .0)
@@ -109,25 +82,6 @@ pub advance-spec : {M : Type 1} → statement M
 advance-spec =
     tie.close
     (tie.spec
-    Inv-loop
-    μ-loop
-    switching-run-refused-requires
-    returns
-    total-steps-requires
-    record-length-requires
-    div-space
-    record-counts-requires
-    switching-plan-requires
-    loop-holds
-    is-recorded-requires
-    reason-requires
-    same-length
-    returns-2
-    switching-step-requires
-    mul-put-if-recorded
-    put-if-recorded-requires
-    add-out
-    add-made
-    add-steps
-    loop-less
-    loop-again)
+    Inv-loop μ-loop (λ c κs. search needs) returns (λ c κs. search needs) (λ c κs. search needs) div-space (λ c κs. search needs)
+    (λ c κs. search needs) loop-holds (λ c κs. search needs) (λ c κs. search needs) same-length returns-2 (λ c κs. search needs) mul-put-if-recorded
+    (λ c κs. search needs) add-out add-made add-steps loop-less loop-again)
