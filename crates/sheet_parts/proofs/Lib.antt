@@ -1,0 +1,2 @@
+-- What a caller learns from the contracts in src/, and that nothing is asked of one.
+pub mod Tied
