@@ -23,7 +23,7 @@ pub struct SiteEnds {
     pub internal: CaseOutcome,
 }
 
-// Of a case of which `first` steps are made, and whose fault lasts through the steps of a window.
+// The outcome of a case of which `first` steps are made, and whose fault lasts through the steps of a window.
 pub fn case_end(plan: FaultPlan, first: u64, window: Window, c: OpenCase) -> CaseOutcome
     ensures { λ r. ⌜ r ≡ endBy plan first window c ⌝ }
 {
@@ -43,7 +43,7 @@ pub fn case_end(plan: FaultPlan, first: u64, window: Window, c: OpenCase) -> Cas
     outcome_from(window, sums, c.clearing_current_ka, detected)
 }
 
-// Of the cases of all three types at a place, none of whose steps is made: they are detected in the same step, and their currents
+// The outcomes of the cases of all three types at a place, none of whose steps is made: they are detected in the same step, and their currents
 // differ by a factor alone. The plan is that of any of them.
 pub fn site_ends(g: DcSwitchingSimulator, plan: FaultPlan, window: Window) -> SiteEnds
     ensures { λ r. ⌜ r ≡ siteOf plan window (startCase g) ⌝ }

@@ -23,7 +23,7 @@ pub struct CaseOutcome {
     pub detected: bool,
 }
 
-// Which limit of a breaker.
+// Which of the two limits of a breaker is meant.
 pub enum Limit {
     BreakingCurrent,
     Energy,
@@ -50,6 +50,7 @@ pub fn reasons_for(g: DcSwitchingSimulator, cable_number: u64, outcome: CaseOutc
         + weight(!outcome.detected, 8)
 }
 
+// The number of a reason that applies, else 0.
 fn weight(applies: bool, reason: u64) -> u64
     ensures answer { λ r. ⌜ r ≡ cond applies reason 0 ⌝ }
     ensures most { λ r. ⌜ r ≤ reason ⌝ }
@@ -57,7 +58,7 @@ fn weight(applies: bool, reason: u64) -> u64
     if applies { reason } else { 0 }
 }
 
-// The cable at a position; one with zeros past the last place.
+// The cable at a position; past the last place one that is all zero.
 fn cable_at(g: DcSwitchingSimulator, number: u64) -> DcCable
     ensures { λ r. ⌜ r ≡ cableIn g number ⌝ }
 {
@@ -77,7 +78,7 @@ fn cable_at(g: DcSwitchingSimulator, number: u64) -> DcCable
     }
 }
 
-// A limit of some breaker at an end of the cable is exceeded.
+// Whether the value exceeds that limit of some breaker at an end of the cable.
 fn some_exceeded(
     breakers: [DcBreaker; MOST_BREAKERS],
     n: usize,
@@ -99,6 +100,7 @@ fn some_exceeded(
     false
 }
 
+// Whether a breaker is at an end of the cable, and the value exceeds its limit. The ends are taken as given.
 fn is_exceeded(b: DcBreaker, cable: DcCable, limit: Limit, value: f64) -> bool
     ensures { λ r. ⌜ r ≡ (atEnd cable b && exceeds value (limitOf limit b)) ⌝ }
 {
@@ -115,7 +117,7 @@ fn limit_of(b: DcBreaker, limit: Limit) -> f64
     }
 }
 
-// A NaN exceeds every limit.
+// Whether a value exceeds a limit. A NaN exceeds every limit.
 fn exceeds_limit(value: f64, limit: f64) -> bool
     ensures { λ r. ⌜ r ≡ exceeds value limit ⌝ }
 {

@@ -34,7 +34,7 @@ pub fn put_row(
     0
 }
 
-// There are reasons, and the whole row lies within the memory.
+// Whether there are reasons, and the whole row lies within the memory.
 fn writes_row(reasons: u64, at: usize, len: usize) -> bool
     ensures { λ r. ⌜ r ≡ writesRow reasons at len ⌝ }
 {
@@ -47,6 +47,7 @@ fn writes_row(reasons: u64, at: usize, len: usize) -> bool
     ROW_LENGTH <= len - at
 }
 
+// The eight numbers of a row, doubles by their bits.
 fn row_numbers(place: CasePlace, reasons: u64, outcome: CaseOutcome, loss_mw: f64) -> [u64; 8]
     ensures { λ r. ⌜ r ≡ numbersOf place reasons outcome «loss_mw» ⌝ }
 {

@@ -17,7 +17,7 @@ use Rattle.case_steps.specs.OpenCases.{startCase, noCase, outcomeIn, cou
 whole : ℕ → Float
 whole n = decimal n 1
 
--- 000's variables as before its loop and nothing else; all zeros and no
+-- the initial values of 000's variables and nothing else; all zero and false
 started : (g : DcSwitchingSimulator) → (startCase g .variables ≡ beforeLoop g) × (startCase g .detected ≡ false) × (startCase g .«clearing_current_ka» ≡ nought)
 started g = (refl, refl, refl)
 

@@ -18,7 +18,7 @@ pub struct OpenCase {
     pub clearing_current_ka: f64,
 }
 
-// A case of which no step is made: 000's variables before its loop.
+// A case of which no step is made: the initial values of 000's variables.
 pub fn first_open_case(g: DcSwitchingSimulator) -> OpenCase
     ensures { λ r. ⌜ r ≡ startCase g ⌝ }
 {

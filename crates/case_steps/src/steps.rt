@@ -10,7 +10,7 @@ use fault_plan::FaultPlan;
 use fault_plan::FaultVariables;
 use fault_step::fault_step;
 
-// The steps from the number `first` up to `end`, which is not made.
+// The case after the steps from the number `first` up to `end`, which is not made.
 pub fn case_steps(plan: FaultPlan, first: u64, end: u64, start: OpenCase) -> OpenCase
     ensures { λ r. ⌜ r ≡ planCaseFrom plan first start (end - first) ⌝ }
 {
@@ -61,6 +61,7 @@ fn clearing_current(cleared_before: bool, after: FaultVariables, before_ka: f64)
     before_ka
 }
 
+// The case after one step.
 fn case_step(plan: FaultPlan, step: u64, c: OpenCase) -> OpenCase
     ensures { λ r. ⌜ r ≡ planCaseStep plan step c ⌝ }
 {
@@ -73,7 +74,7 @@ fn case_step(plan: FaultPlan, step: u64, c: OpenCase) -> OpenCase
     }
 }
 
-// Once a step is detected, none is looked at any more.
+// Whether a step that reason 8 counts is detected, this one or one before. Once one is, none is looked at any more.
 fn is_detected(plan: FaultPlan, step: u64, c: OpenCase, after: FaultVariables) -> bool
     ensures { λ r. ⌜ r ≡ planDetected plan step c after ⌝ }
 {

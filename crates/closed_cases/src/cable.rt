@@ -38,7 +38,7 @@ pub fn ends_held(common: Common, before: CableEnds, k: u64, allowed: u64, room: 
     before
 }
 
-// It stands before the first case of a cable, and steps and rows are left for all of them.
+// Whether a call stands before the first case of a cable, and has steps and rows left for all of them.
 fn closes_cable(
     order: SweepOrder,
     place: CasePlace,
@@ -53,7 +53,7 @@ fn closes_cable(
     first & (n_steps <= allowed / cases) & (cases <= room as u64)
 }
 
-// Of no cable.
+// What a call holds at first: no cable.
 pub fn no_cable_ends() -> CableEnds
     ensures { λ r. ⌜ r ≡ noCable ⌝ }
 {
@@ -64,7 +64,7 @@ pub fn no_cable_ends() -> CableEnds
     }
 }
 
-// Of all cases of a cable, from their first step to their end.
+// The outcomes of all cases of a cable, from their first step to their end.
 fn cable_ends(common: Common, cable: u64) -> CableEnds
     ensures { λ r. ⌜ r ≡ cableOf common cable ⌝ }
 {
@@ -81,7 +81,7 @@ fn cable_ends(common: Common, cable: u64) -> CableEnds
     }
 }
 
-// All zero and false where the order does not try the tenth.
+// The outcomes at a tenth; all zero and false where the order does not try it.
 fn site_at(common: Common, cable: u64, tenth: u64) -> SiteEnds
     ensures { λ r. ⌜ r ≡ siteAt common cable tenth ⌝ }
 {
@@ -99,13 +99,14 @@ fn site_at(common: Common, cable: u64, tenth: u64) -> SiteEnds
     blank_site()
 }
 
-// A tenth that an order tries.
+// Whether an order tries a tenth.
 pub fn is_tried(order: SweepOrder, tenth: u64) -> bool
     ensures { λ r. ⌜ r ≡ tried order tenth ⌝ }
 {
     (order.low_tenth <= tenth) & (tenth <= order.high_tenth) & (tenth <= MOST_TENTHS)
 }
 
+// Outcomes that are all zero and false.
 fn blank_site() -> SiteEnds
     ensures { λ r. ⌜ r ≡ blankSite ⌝ }
 {

@@ -15,7 +15,7 @@ use fault_window::fault_window;
 use sweep_cases::Common;
 use sweep_cases::plan_at;
 
-// Case k, of which `made` steps are made and which is at `c`. A case that is fresh, none of whose steps is made, is looked up where its
+// The outcome of case k, of which `made` steps are made and `c` is kept. A case that is fresh, none of whose steps is made, is looked up where its
 // cable is held.
 pub fn closed_outcome(
     common: Common,
@@ -38,7 +38,7 @@ pub fn closed_outcome(
     end_for(common, place, made, c)
 }
 
-// Of a type of fault.
+// The outcome of a type of fault at a place.
 fn in_site(site: SiteEnds, fault_type: u64) -> CaseOutcome
     ensures { λ r. ⌜ r ≡ inSite site «fault_type» ⌝ }
 {
@@ -52,7 +52,7 @@ fn in_site(site: SiteEnds, fault_type: u64) -> CaseOutcome
     }
 }
 
-// Worked out from what is kept of the case.
+// The outcome worked out from what is kept of the case.
 fn end_for(common: Common, place: CasePlace, made: u64, c: OpenCase) -> CaseOutcome
     ensures { λ r. ⌜ r ≡ endFor common place made c ⌝ }
 {

@@ -12,7 +12,7 @@ use grid::MOST_STATIONS;
 use grid::cable_resistance;
 use grid::present;
 
-// The conductances of any grid, accepted or not.
+// The conductance matrix of any grid, accepted or not. A count past the arrays takes all of them.
 pub fn conductances_of(g: DcSwitchingSimulator) -> [f64; 1024]
     ensures { λ r. ⌜ r ≡ conductancesOf g ⌝ }
 {
@@ -24,7 +24,7 @@ pub fn conductances_of(g: DcSwitchingSimulator) -> [f64; 1024]
     m
 }
 
-// Into zeros, cable after cable, so that each entry is added up in the cables' order.
+// Adds all cables to a matrix of zeros, one after the other, so that each entry is added up in the cables' order.
 fn conductances(m: &mut [f64; 1024], cables: [DcCable; MOST_CABLES], n_cables: usize, n: usize)
     requires { ⌜ («n_cables» ≤ 64) × (n ≤ 32) × (m .now ≡ blank 1024 nought) ⌝ }
     ensures { λ _. ⌜ now (m .exit) ≡ matrix n (take «n_cables» cables) ⌝ }
@@ -37,7 +37,7 @@ fn conductances(m: &mut [f64; 1024], cables: [DcCable; MOST_CABLES], n_cables: u
     }
 }
 
-// A cable with an end at or past the count is skipped.
+// Adds one cable to the matrix. A cable with an end at or past the count is skipped.
 fn connect(m: &mut [f64; 1024], c: DcCable, n: usize)
     requires { ⌜ n ≤ 32 ⌝ }
     ensures { λ _. ⌜ now (m .exit) ≡ eachEntry (λ i j x. joined n i j x c) (now (m .entry)) ⌝ }
@@ -52,6 +52,7 @@ fn connect(m: &mut [f64; 1024], c: DcCable, n: usize)
     }
 }
 
+// Adds a conductance at each of the two ends, and takes it off between them.
 fn store(m: &mut [f64; 1024], from: usize, to: usize, g: f64)
     requires { ⌜ (from < 32) × (to < 32) ⌝ }
     ensures { λ _. ⌜ now (m .exit) ≡ eachEntry (joining from to g) (now (m .entry)) ⌝ }

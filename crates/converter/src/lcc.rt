@@ -13,7 +13,7 @@ use float64::to_radians;
 use grid::ConverterStation;
 use square_root::SQRT_2;
 
-// The point of any station, accepted or not.
+// The operating point at a DC current, of any station, accepted or not.
 pub fn lcc_point(station: ConverterStation, i_dc_ka: f64) -> ConverterOperatingPoint
     ensures { λ r. ⌜ r ≡ lccPoint station «i_dc_ka» ⌝ }
 {
@@ -31,7 +31,7 @@ pub fn lcc_point(station: ConverterStation, i_dc_ka: f64) -> ConverterOperatingP
     }
 }
 
-// Z = V^2/P of the ratings.
+// The base impedance in ohms: the rated voltage squared over the rated power.
 fn base_impedance(station: ConverterStation) -> f64
     ensures { λ r. ⌜ r ≡ baseImpedance station ⌝ }
 {
@@ -39,6 +39,7 @@ fn base_impedance(station: ConverterStation) -> f64
     v * v / max(station.p_rated_mw, LEAST)
 }
 
+// The DC voltage in kV.
 fn voltage(station: ConverterStation, cos_alpha: f64, z_base: f64, i_dc_ka: f64) -> f64
     requires { ⌜ («cos_alpha» ≡ cosAlpha station) × («z_base» ≡ baseImpedance station) ⌝ }
     ensures { λ r. ⌜ r ≡ lccVoltage station «i_dc_ka» ⌝ }
@@ -49,7 +50,7 @@ fn voltage(station: ConverterStation, cos_alpha: f64, z_base: f64, i_dc_ka: f64)
     v_d0 * cos_alpha - (3.0 / PI) * x_c * i_dc_ka
 }
 
-// 000 takes a difference of cosines for the overlap angle, and at most PI/4.
+// The power factor, from 0 to 1. For the overlap angle 000 takes a difference of cosines, and at most PI/4.
 fn power_factor(station: ConverterStation, cos_alpha: f64, i_dc_ka: f64) -> f64
     requires { ⌜ «cos_alpha» ≡ cosAlpha station ⌝ }
     ensures { λ r. ⌜ r ≡ lccPowerFactor station «i_dc_ka» ⌝ }
@@ -61,6 +62,7 @@ fn power_factor(station: ConverterStation, cos_alpha: f64, i_dc_ka: f64) -> f64
     clamp(cos_alpha * (1.0 - mu_rad / 2.0), 0.0, 1.0)
 }
 
+// The losses in MW: a part of the rated power, and what the current loses in the converter.
 fn losses(station: ConverterStation, z_base: f64, i_dc_ka: f64) -> f64
     requires { ⌜ «z_base» ≡ baseImpedance station ⌝ }
     ensures { λ r. ⌜ r ≡ lccLosses station «i_dc_ka» ⌝ }

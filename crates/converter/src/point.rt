@@ -13,7 +13,7 @@ pub struct ConverterOperatingPoint {
     pub losses_mw: f64,
 }
 
-// All zeros, as for a station that is refused.
+// A point of zeros, as it stands beside a refusal.
 pub fn no_point() -> ConverterOperatingPoint
     ensures { λ r. ⌜ r ≡ blankPoint ⌝ }
 {

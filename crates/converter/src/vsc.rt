@@ -16,7 +16,7 @@ use std::num::nearest_u64_to_f64;
 // The root of 1.5.
 const ROOT_OF_3_2: f64 = 1.224744871391589;
 
-// The point of any station, accepted or not.
+// The operating point at a power and a DC voltage, of any station, accepted or not. The voltage is raised to LEAST.
 pub fn vsc_point(station: ConverterStation, p_mw: f64, v_dc_kv: f64) -> ConverterOperatingPoint
     ensures { λ r. ⌜ r ≡ vscPoint station «p_mw» «v_dc_kv» ⌝ }
 {
@@ -35,7 +35,7 @@ pub fn vsc_point(station: ConverterStation, p_mw: f64, v_dc_kv: f64) -> Converte
     }
 }
 
-// The modulation index, back from the voltage.
+// The modulation index, worked back from the DC voltage.
 fn modulation(v_dc: f64) -> f64
     ensures { λ r. ⌜ r ≡ modulation «v_dc» ⌝ }
 {
@@ -46,7 +46,7 @@ fn modulation(v_dc: f64) -> f64
     0.85
 }
 
-// Losses in MW, less the topology's factor: a + b I + c I^2, with a, b and c from the ratings.
+// The losses in MW before the topology's factor: a + b I + c I^2, with a, b and c from the ratings.
 fn losses(station: ConverterStation, i_dc_ka: f64) -> f64
     ensures { λ r. ⌜ r ≡ lossesAt station «i_dc_ka» ⌝ }
 {
@@ -58,7 +58,7 @@ fn losses(station: ConverterStation, i_dc_ka: f64) -> f64
     a + b * abs(i_dc_ka) + c * i_dc_ka * i_dc_ka
 }
 
-// The losses of a topology, as a part of these.
+// The topology's factor on these losses. That of an MMC falls with the root of its submodules.
 fn loss_factor(topology: ConverterTopology) -> f64
     ensures { λ r. ⌜ r ≡ lossFactor topology ⌝ }
 {

@@ -46,7 +46,7 @@ pub fn detect_fault(
     }
 }
 
-// Of a grid that is known to be accepted, by its counts and its rated voltages: what a sweep asks after each step.
+// Whether a fault shows between two states of a grid that is known to be accepted, by its counts and its rated voltages: what a sweep asks after each step.
 pub fn detects(
     rated_kv: &[f64; 96],
     n_stations: usize,
@@ -69,7 +69,7 @@ pub fn detects(
     )
 }
 
-// The same of the voltages and cable currents and the times of the two states alone.
+// The same from the voltages, cable currents and times of the two states alone. A count past the arrays takes all of them.
 pub fn shows_fault(
     rated_kv: &[f64; 96],
     y: &[f64; 96],
@@ -89,12 +89,14 @@ pub fn shows_fault(
     fast | low
 }
 
+// The time between two states in milliseconds, whichever is the earlier; at least 1e-9.
 fn time_between(time_ms: f64, before_ms: f64) -> f64
     ensures { λ r. ⌜ r ≡ timeBetween «time_ms» «before_ms» ⌝ }
 {
     max(abs(time_ms - before_ms), 0.000000001)
 }
 
+// Whether the current of some cable changes fast.
 fn some_current_fast(
     y: &[f64; 96],
     before: &[f64; 96],
@@ -115,13 +117,14 @@ fn some_current_fast(
     false
 }
 
-// More than 10 kA in a millisecond.
+// Whether a current changes by more than 10 kA in a millisecond.
 fn is_fast(dt_ms: f64, current: f64, before: f64) -> bool
     ensures { λ r. ⌜ r ≡ fast «dt_ms» current before ⌝ }
 {
     abs(current - before) / dt_ms > 10.0
 }
 
+// Whether the voltage of some station is low.
 fn some_voltage_low(rated_kv: &[f64; 96], y: &[f64; 96], n_stations: usize) -> bool
     requires { ⌜ «n_stations» ≤ 32 ⌝ }
     ensures { λ r. ⌜ r ≡ some «n_stations» (λ i. low (of (now (y .entry)) i) (of (now («rated_kv» .entry)) i)) ⌝ }
@@ -136,7 +139,7 @@ fn some_voltage_low(rated_kv: &[f64; 96], y: &[f64; 96], n_stations: usize) -> b
     false
 }
 
-// Below 80 percent of rated.
+// Whether a voltage is below 80 percent of rated.
 fn is_low(v: f64, rated: f64) -> bool
     ensures { λ r. ⌜ r ≡ low v rated ⌝ }
 {

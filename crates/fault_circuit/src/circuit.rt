@@ -11,7 +11,7 @@ use grid::DcFaultType;
 use grid::DcSwitchingSimulator;
 use square_root::sqrt;
 
-// What an inductance, a resistance and a time constant that divide are raised to.
+// The least inductance, resistance and time constant to divide by. What is smaller is raised to it.
 const LEAST: f64 = 0.000000001;
 
 // The current in amperes, t seconds after inception.
@@ -37,7 +37,7 @@ pub struct FaultCircuit {
     pub r_fault_ohm: f64,
 }
 
-// Once for a run: the root is taken here.
+// The circuit of any fault on any grid, worked out once for a run: the root is taken here, and not in each step.
 pub fn fault_circuit(g: DcSwitchingSimulator, fault: DcFaultEvent) -> FaultCircuit
     ensures { λ r. ⌜ r ≡ circuitOf g fault ⌝ }
 {
@@ -55,6 +55,7 @@ pub fn fault_circuit(g: DcSwitchingSimulator, fault: DcFaultEvent) -> FaultCircu
     }
 }
 
+// Which response the circuit has by its damping, and with which constants.
 fn response_of(p: RlcParameters) -> Response
     ensures { λ r. ⌜ r ≡ responseOf p ⌝ }
 {
@@ -69,6 +70,7 @@ fn response_of(p: RlcParameters) -> Response
     overdamped_response(v, l, alpha, omega0_sq)
 }
 
+// A current that swings; Still where it would swing too slowly to divide by the frequency.
 fn underdamped_response(v: f64, l: f64, alpha: f64, omega0_sq: f64) -> Response
     ensures { λ r. ⌜ r ≡ specs.underdampedResponse v l alpha «omega0_sq» ⌝ }
 {
@@ -83,7 +85,7 @@ fn underdamped_response(v: f64, l: f64, alpha: f64, omega0_sq: f64) -> Response
     Response::Still
 }
 
-// Two roots, or one where they are too near to each other to divide by their distance.
+// A current that does not swing: two roots, or one (Critical) where they are too near to each other to divide by their distance.
 fn overdamped_response(v: f64, l: f64, alpha: f64, omega0_sq: f64) -> Response
     ensures { λ r. ⌜ r ≡ specs.overdampedResponse v l alpha «omega0_sq» ⌝ }
 {
@@ -100,13 +102,14 @@ fn overdamped_response(v: f64, l: f64, alpha: f64, omega0_sq: f64) -> Response
     Response::Critical { gain: v / l, alpha }
 }
 
+// What the fault's own resistance leaves of the current: all of it at 0 ohms.
 fn resistance_factor(p: RlcParameters) -> f64
     ensures { λ r. ⌜ r ≡ resistanceFactor p ⌝ }
 {
     1.0 / (1.0 + p.r_fault_ohm / (p.r_total_ohm + LEAST))
 }
 
-// Pole to ground has less current than pole to pole.
+// The factor of the fault's type on the current: pole to pole has the most.
 fn type_factor(kind: DcFaultType) -> f64
     ensures { λ r. ⌜ r ≡ typeFactor kind ⌝ }
 {
@@ -117,7 +120,7 @@ fn type_factor(kind: DcFaultType) -> f64
     }
 }
 
-// In seconds.
+// The time constant in seconds with which the current fades after clearing, at least LEAST.
 fn decay_tau(p: RlcParameters) -> f64
     ensures { λ r. ⌜ r ≡ decayTau p ⌝ }
 {

@@ -38,7 +38,7 @@ pub fn fault_rlc_params(g: DcSwitchingSimulator, fault: DcFaultEvent) -> RlcPara
     parameters_at(cable, station, capacitance_of(stations, n), fault)
 }
 
-// Resistance and inductance count up to the fault, the capacitance of the cable whole. 1 mH is for smoothing.
+// The circuit of a fault on a cable that a station feeds. The cable's resistance and inductance count up to the fault, its capacitance whole. 1 mH is for smoothing.
 fn parameters_at(
     cable: DcCable,
     station: ConverterStation,
@@ -57,6 +57,7 @@ fn parameters_at(
     }
 }
 
+// The submodule capacitances of n stations, added up in their order.
 fn capacitance_of(stations: [ConverterStation; MOST_STATIONS], n: usize) -> f64
     requires { ⌜ n ≤ 32 ⌝ }
     ensures { λ r. ⌜ r ≡ sumOf (λ k. getD stations k blankStation .«sm_capacitance_uf») n ⌝ }

@@ -9,6 +9,7 @@ use fault_circuit::Response;
 use float64::abs;
 use float64::max;
 
+// The current in kA at t_ms while the fault lasts. A time before inception counts as inception.
 pub fn fault_current_ka(circuit: FaultCircuit, t_ms: f64) -> f64
     ensures { λ r. ⌜ r ≡ currentOf circuit «t_ms» ⌝ }
 {
@@ -17,7 +18,7 @@ pub fn fault_current_ka(circuit: FaultCircuit, t_ms: f64) -> f64
     abs(amperes(response, t)) / 1000.0 * circuit.resistance_factor * circuit.type_factor
 }
 
-// What is left at t_ms of the current that flowed when the fault was cleared.
+// What is left at t_ms of the current that flowed when the fault was cleared; 0 once that is less than 1 mA.
 pub fn decayed_current_ka(
     circuit: FaultCircuit,
     current_ka: f64,
@@ -34,6 +35,7 @@ pub fn decayed_current_ka(
     decayed
 }
 
+// The circuit's current in amperes, t seconds after inception. A current that swings has both signs.
 fn amperes(response: Response, t: f64) -> f64
     ensures { λ r. ⌜ r ≡ specs.amperes response t ⌝ }
 {
@@ -49,7 +51,7 @@ fn amperes(response: Response, t: f64) -> f64
     }
 }
 
-// 0 before that moment.
+// Seconds from a moment to a time, both in milliseconds; 0 before that moment.
 fn seconds_since(moment_ms: f64, t_ms: f64) -> f64
     ensures { λ r. ⌜ r ≡ secondsSince «moment_ms» «t_ms» ⌝ }
 {

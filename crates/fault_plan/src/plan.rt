@@ -39,6 +39,7 @@ pub struct FaultPlan {
     pub rated_kv: [f64; 96],
 }
 
+// All that stays the same in the steps of any fault on any grid.
 pub fn fault_plan(g: DcSwitchingSimulator, fault: DcFaultEvent) -> FaultPlan
     ensures { λ r. ⌜ r ≡ planOf g fault ⌝ }
 {
@@ -49,6 +50,7 @@ pub fn fault_plan(g: DcSwitchingSimulator, fault: DcFaultEvent) -> FaultPlan
     }
 }
 
+// The same without the tables that the grid alone decides.
 pub fn fault_constants(g: DcSwitchingSimulator, fault: DcFaultEvent) -> FaultConstants
     ensures { λ r. ⌜ r ≡ constantsOf g fault ⌝ }
 {

@@ -13,7 +13,7 @@ use recovery::none_below;
 use run_start::step_time_ms;
 use state_derivatives::DcTransientState;
 
-// The step comes before inception: the fault is neither cleared nor active.
+// Whether a step comes before inception: the fault is neither cleared nor active.
 pub fn waits(k: FaultConstants, step: u64, v: FaultVariables) -> bool
     ensures { λ r. ⌜ r ≡ waitsBy k step v ⌝ }
 {
@@ -22,7 +22,7 @@ pub fn waits(k: FaultConstants, step: u64, v: FaultVariables) -> bool
     !(v.fault_cleared | v.fault_active | reached)
 }
 
-// The fault is cleared, no voltage is below its rated one, and the time of recovery stays as it is: so in every later step.
+// Whether the fault is cleared, no voltage is below its rated one, and the time of recovery stays as it is. Then this holds before every later step too.
 pub fn rests(plan: FaultPlan, v: FaultVariables) -> bool
     ensures { λ r. ⌜ r ≡ restsBy plan v ⌝ }
 {
@@ -38,7 +38,7 @@ pub fn rests(plan: FaultPlan, v: FaultVariables) -> bool
     false
 }
 
-// Only the time goes on, and after clearing what is left of the current fades.
+// The variables after a step that changes no array: only the time goes on, and after clearing what is left of the current fades.
 pub fn quiet_step(k: FaultConstants, step: u64, v: FaultVariables) -> FaultVariables
     ensures { λ r. ⌜ r ≡ quietStep k step v ⌝ }
 {
@@ -57,6 +57,7 @@ pub fn quiet_step(k: FaultConstants, step: u64, v: FaultVariables) -> FaultVaria
     }
 }
 
+// The fault current after such a step.
 fn quiet_current_ka(circuit: FaultCircuit, v: FaultVariables, t_ms: f64) -> f64
     ensures { λ r. ⌜ r ≡ cond (v .«fault_cleared») (decayedOf circuit (v .«prev_fault_current_ka») (v .«clearing_time_ms») «t_ms») (v .state .«fault_current_ka») ⌝ }
 {

@@ -19,7 +19,7 @@ pub struct FaultVariables {
     pub fault_active: bool,
 }
 
-// Of no step, beside a state: no current yet, the fault neither active nor cleared, and the times of clearing and of recovery at `until_ms`.
+// The variables before any step, with a state: no current yet, the fault neither active nor cleared, and the times of clearing and of recovery at `until_ms`.
 pub fn fresh_variables(state: DcTransientState, until_ms: f64) -> FaultVariables
     ensures { λ r. ⌜ r ≡ freshVariables state «until_ms» ⌝ }
 {

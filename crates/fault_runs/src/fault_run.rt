@@ -37,7 +37,7 @@ pub struct AdvancedFaultRun {
     pub run: FaultRun,
 }
 
-// Rule 11.
+// Whether rule 11 refuses a kept run.
 fn fault_run_refused(run: FaultRun) -> bool
     ensures { λ r. ⌜ r ≡ faultRunRefused run ⌝ }
 {
@@ -126,7 +126,7 @@ impl FaultRun {
     }
 }
 
-// A run that ends without clearing has the duration.
+// The clearing time that is shown: the duration where a run ends without clearing.
 fn clearing_time(uncleared: bool, clearing_time_ms: f64, duration_ms: f64) -> f64
     ensures { λ r. ⌜ r ≡ cond uncleared «duration_ms» «clearing_time_ms» ⌝ }
 {

@@ -19,7 +19,7 @@ use run_start::step_time_ms;
 use state_derivatives::DcTransientState;
 use transient::rk4_step;
 
-// One step, numbered from 0. Its phase is tested first: before inception nothing but the time goes on.
+// The variables after a step; steps are numbered from 0. Its phase is tested first: before inception nothing but the time goes on.
 pub fn fault_step(plan: FaultPlan, step: u64, v: FaultVariables) -> FaultVariables
     ensures { λ r. ⌜ r ≡ planStep plan step v ⌝ }
 {
@@ -68,14 +68,14 @@ fn while_faulted(plan: FaultPlan, v: FaultVariables, t_ms: f64) -> FaultVariable
     }
 }
 
-// In kA/ms.
+// How fast the fault current has changed, in kA/ms.
 fn di_dt(i_fault_ka: f64, prev_fault_current_ka: f64, dt_ms: f64) -> f64
     ensures { λ r. ⌜ r ≡ diDt «dt_ms» «i_fault_ka» «prev_fault_current_ka» ⌝ }
 {
     abs(i_fault_ka - prev_fault_current_ka) / max(dt_ms, 0.000000000001)
 }
 
-// I * I * R * dt of one step.
+// The heat of one step in MJ: I * I * R * dt.
 fn dissipated_mj(i_fault_ka: f64, r_ohm: f64, dt_ms: f64) -> f64
     ensures { λ r. ⌜ r ≡ dissipated «dt_ms» «r_ohm» «i_fault_ka» ⌝ }
 {
@@ -83,7 +83,7 @@ fn dissipated_mj(i_fault_ka: f64, r_ohm: f64, dt_ms: f64) -> f64
     i_a * i_a * r_ohm * (dt_ms * 0.001) / 1000000.0
 }
 
-// At clearing all breakers open.
+// The breakers after a step: all open if it clears the fault, else as they were.
 fn opened_if(clears: bool, breakers: [bool; MOST_BREAKERS]) -> [bool; MOST_BREAKERS]
     ensures { λ r. ⌜ r ≡ cond clears (blank 32 false) breakers ⌝ }
 {

@@ -85,7 +85,7 @@ fn block_length(step: u64, end: u64) -> usize
     16
 }
 
-// Before the factor of the fault's type. Lanes from n on have the current at time 0, and are not folded.
+// The currents of a block before the factor of the fault's type. Lanes from n on have the current at time 0, and are not folded.
 fn block_currents(circuit: FaultCircuit, dt_ms: f64, first: u64, n: usize) -> [f64; 16]
     requires { ⌜ (n ≤ 16) × (first + n < 2 ^ 64) ⌝ }
     ensures { λ r. ⌜ r ≡ tab 16 (λ j. siteCurrent circuit (of (blockTimes «dt_ms» first n) j)) ⌝ }
@@ -110,7 +110,7 @@ fn block_times(dt_ms: f64, first: u64, n: usize) -> [f64; 16]
     t_ms
 }
 
-// The first n lanes of a block, for the three types.
+// Folds the first n lanes of a block, for each of the three types.
 fn add_site_block(s: SiteSums, i: &[f64; 16], r_ohm: f64, dt_ms: f64, n: usize) -> SiteSums
     requires { ⌜ n ≤ 16 ⌝ }
     ensures { λ r. ⌜ (r .ground ≡ sumsFrom (λ j. of (now (i .entry)) j ⊗ groundPart) (dissipated «dt_ms» «r_ohm») 0 (s .ground) n) × (r .pole ≡ sumsFrom (λ j. of (now (i .entry)) j ⊗ one) (dissipated «dt_ms» «r_ohm») 0 (s .pole) n) × (r .internal ≡ sumsFrom (λ j. of (now (i .entry)) j ⊗ internalPart) (dissipated «dt_ms» «r_ohm») 0 (s .internal) n) ⌝ }
@@ -125,7 +125,7 @@ fn add_site_block(s: SiteSums, i: &[f64; 16], r_ohm: f64, dt_ms: f64, n: usize) 
     }
 }
 
-// The first n lanes of a block, for a type of this factor.
+// Folds the first n lanes of a block, for a type of this factor.
 fn add_block(start: Sums, i: &[f64; 16], factor: f64, r_ohm: f64, dt_ms: f64, n: usize) -> Sums
     requires { ⌜ n ≤ 16 ⌝ }
     ensures { λ r. ⌜ r ≡ sumsFrom (λ j. of (now (i .entry)) j ⊗ factor) (dissipated «dt_ms» «r_ohm») 0 start n ⌝ }
@@ -162,7 +162,7 @@ fn heats(i: &[f64; 16], factor: f64, r_ohm: f64, dt_ms: f64) -> [f64; 16]
     heat
 }
 
-// In order: sums of doubles depend on it.
+// Folds the first n lanes in order, on which sums of doubles depend.
 fn add_lanes(start: Sums, i: &[f64; 16], heat: &[f64; 16], n: usize) -> Sums
     requires { ⌜ n ≤ 16 ⌝ }
     ensures { λ r. ⌜ r ≡ lanesFrom (of (now (i .entry))) (of (now (heat .entry))) 0 start n ⌝ }

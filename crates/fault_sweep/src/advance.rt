@@ -100,7 +100,7 @@ impl Sweep {
     }
 }
 
-// Rule 11.
+// Whether rule 11 refuses a kept sweep.
 fn is_broken(s: Sweep) -> bool
     ensures { λ r. ⌜ r ≡ sweepBroken s ⌝ }
 {

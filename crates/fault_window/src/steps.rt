@@ -14,7 +14,7 @@ pub struct Window {
     pub clears: bool,
 }
 
-// Of the steps from `first` up to `end`, which is not made. The fault is active from its inception on, or in all of them where it is active already.
+// The window in the steps from `first` up to `end`, which is not made. The fault is active from its inception on, or in all of them where it is active already.
 // Where it is active in none, or `first` is not below `end`, no step lies in the window.
 pub fn fault_window(
     dt_ms: f64,
@@ -43,7 +43,7 @@ pub fn fault_window(
     }
 }
 
-// The end where the fault is active in no step. Of a fault that is active already, the first step.
+// The first step in which the fault is active, and `end` where there is none. Of a fault that is active already, `first`.
 fn first_active(dt_ms: f64, inception_ms: f64, active: bool, first: u64, end: u64) -> u64
     ensures { λ r. ⌜ r ≡ until (activeIn «dt_ms» «inception_ms» active) first (end - first) ⌝ }
 {
@@ -63,7 +63,7 @@ fn is_active(dt_ms: f64, inception_ms: f64, active: bool, step: u64) -> bool
     active | (inception_ms <= step_time_ms(dt_ms, step))
 }
 
-// The end where no step clears the fault.
+// The first step that clears the fault, and `end` where none does.
 fn first_clearing(dt_ms: f64, inception_ms: f64, clear_ms: f64, first: u64, end: u64) -> u64
     ensures { λ r. ⌜ r ≡ until (clearsIn «dt_ms» «inception_ms» «clear_ms») first (end - first) ⌝ }
 {
@@ -77,7 +77,7 @@ fn first_clearing(dt_ms: f64, inception_ms: f64, clear_ms: f64, first: u64, end:
     step
 }
 
-// The time since inception has reached that of the breakers.
+// Whether the time from inception to a step has reached that of the breakers.
 fn is_cleared(dt_ms: f64, inception_ms: f64, clear_ms: f64, step: u64) -> bool
     ensures { λ r. ⌜ r ≡ clearsIn «dt_ms» «inception_ms» «clear_ms» step ⌝ }
 {

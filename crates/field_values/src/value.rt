@@ -4,6 +4,7 @@ ghost use mathlib.Core.Bool.{false};
 ghost use Prim.Native.Nat.{_≤_, _^_};
 ghost use lib.Ieee.{binary64, round};
 
+// The double nearest to digits / 10^places.
 pub fn nearest_double(digits: u64, places: u64) -> f64
     requires { ⌜ digits ≤ 2 ^ 53 ⌝ }
     requires { ⌜ places ≤ 6 ⌝ }

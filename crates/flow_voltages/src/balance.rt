@@ -30,6 +30,7 @@ pub fn station_currents(
     }
 }
 
+// Adds the products of one column with the voltage x. The matrix is symmetric, so its row j is read.
 fn add_column(sums: &mut [f64; MOST_STATIONS], m: &[f64; 1024], j: usize, x: f64, n: usize)
     requires { ⌜ (j < 32) × (n ≤ 32) ⌝ }
     ensures { λ _. ⌜ now (sums .exit) ≡ over n (λ i. of (now (sums .entry)) i ⊕ cell (now (m .entry)) j i ⊗ x) nan (now (sums .entry)) ⌝ }
@@ -59,7 +60,7 @@ pub fn mismatches_at(
     largest_mismatch(d, n)
 }
 
-// From the stations' currents.
+// The same mismatches, from the stations' currents.
 fn power_mismatches(
     d: &mut [f64; MOST_STATIONS],
     wanted: &[f64; MOST_STATIONS],
@@ -77,7 +78,7 @@ fn power_mismatches(
     }
 }
 
-// A NaN among them is passed over.
+// The largest size of a mismatch; 0 where there is one station. A NaN is passed over.
 fn largest_mismatch(d: &[f64; MOST_STATIONS], n: usize) -> f64
     requires { ⌜ n ≤ 32 ⌝ }
     ensures { λ r. ⌜ r ≡ largest (now (d .entry)) (n - 1) ⌝ }

@@ -35,7 +35,7 @@ pub struct Voltages {
     pub iterations: u64,
 }
 
-// The currents are those of the stations at the voltages.
+// Voltages, and the stations' currents at them.
 pub struct Found {
     pub voltages: Voltages,
     pub i_dc_ka: [f64; MOST_STATIONS],
@@ -54,7 +54,7 @@ pub fn find_voltages(g: DcSwitchingSimulator) -> Voltages
     found.voltages
 }
 
-// Beside the voltages the currents at them, from the same conductances.
+// The same, with the stations' currents at these voltages, from the same conductances.
 pub fn find_with_currents(g: DcSwitchingSimulator) -> Found
     ensures voltages { λ r. ⌜ r .voltages ≡ voltagesOf g ⌝ }
     ensures currents { λ r. ⌜ r .«i_dc_ka» ≡ currentsOf g (voltagesOf g .«v_dc_kv») ⌝ }
@@ -72,7 +72,7 @@ pub fn find_with_currents(g: DcSwitchingSimulator) -> Found
     }
 }
 
-// Station 0 holds its voltage, the others their power.
+// Passes from the rated voltages on, until all mismatches are below TOLERANCE or 50 passes are made. Station 0 holds its voltage, the others their power.
 fn run_passes(stations: [ConverterStation; MOST_STATIONS], n: usize, m: &[f64; 1024]) -> Voltages
     requires { ⌜ (n ≤ 32) × Symmetric n (m .now) ⌝ }
     ensures { λ r. ⌜ r ≡ specs.voltages stations n (now (m .entry)) ⌝ }
@@ -127,7 +127,7 @@ fn read_ratings(
     }
 }
 
-// Negative: the station takes power from the grid. The first has what is left.
+// The power in MW that station i is to have: below 0, since it takes power from the grid. Of station 0 none is asked for: it has what is left.
 fn wanted_power(i: usize, p_rated_mw: f64) -> f64
     ensures { λ r. ⌜ r ≡ cond (eqb i 0) nought (neg «p_rated_mw» ⊗ loading) ⌝ }
 {

@@ -23,13 +23,14 @@ pub fn station_capacitance_uf(g: DcSwitchingSimulator, station: ConverterStation
     capacitance_with(station, joined)
 }
 
+// The capacitance in µF at a station to which cables add `joined`, at least 0.01.
 pub fn capacitance_with(station: ConverterStation, joined: f64) -> f64
     ensures { λ r. ⌜ r ≡ capacitanceWith station joined ⌝ }
 {
     max(own_capacitance(station) + joined, 0.01)
 }
 
-// Of the cables at a station, by its id.
+// What the cables add to the capacitance at a station of this id, in µF.
 pub fn joined_capacitance(id: u64, cables: [DcCable; MOST_CABLES], n_cables: usize) -> f64
     requires { ⌜ «n_cables» ≤ 64 ⌝ }
     ensures { λ r. ⌜ r ≡ joinedCapacitance id (take «n_cables» cables) ⌝ }
@@ -44,7 +45,7 @@ pub fn joined_capacitance(id: u64, cables: [DcCable; MOST_CABLES], n_cables: usi
     joined
 }
 
-// A cable's end is matched against the station's id.
+// The sum with half of a cable more, if an end of the cable is the station's id; not twice if both are.
 fn with_cable(id: u64, joined: f64, c: DcCable) -> f64
     ensures { λ r. ⌜ r ≡ withCable id joined c ⌝ }
 {
@@ -57,12 +58,14 @@ fn with_cable(id: u64, joined: f64, c: DcCable) -> f64
     joined
 }
 
+// Half of a cable's capacitance, in µF.
 fn half_of(c: DcCable) -> f64
     ensures { λ r. ⌜ r ≡ halfOf c ⌝ }
 {
     c.c_per_km * c.length_km * 0.5
 }
 
+// The converter's own capacitance in µF.
 fn own_capacitance(station: ConverterStation) -> f64
     ensures { λ r. ⌜ r ≡ ownCapacitance station ⌝ }
 {
@@ -81,14 +84,14 @@ fn own_capacitance(station: ConverterStation) -> f64
     }
 }
 
-// 000 multiplies by the submodules, though its comment divides.
+// An MMC: 000 multiplies by the submodules, though its comment divides.
 fn mmc_capacitance(sm_capacitance_uf: f64, n_submodules: u64) -> f64
     ensures { λ r. ⌜ r ≡ mmcCapacitance «sm_capacitance_uf» «n_submodules» ⌝ }
 {
     sm_capacitance_uf * nearest_u64_to_f64(counted_submodules(n_submodules)) / 6.0
 }
 
-// From the rated power and voltage.
+// Any other converter: from the rated power and voltage, each at least 1.
 fn rated_capacitance(v_dc_rated_kv: f64, p_rated_mw: f64) -> f64
     ensures { λ r. ⌜ r ≡ ratedCapacitance «v_dc_rated_kv» «p_rated_mw» ⌝ }
 {

@@ -38,9 +38,10 @@ pub struct Drain {
     pub fraction: f64,
 }
 
-// Past every station.
+// A position past every station.
 const NOWHERE: usize = MOST_STATIONS;
 
+// The network of any grid. A count past the arrays takes all of them.
 pub fn network_of(g: DcSwitchingSimulator) -> Network
     ensures { λ r. ⌜ r ≡ networkOf g ⌝ }
 {
@@ -107,7 +108,7 @@ fn read_impedances(
     }
 }
 
-// In henries, from millihenries per km.
+// A cable's inductance in henries, at least 1e-9.
 fn cable_inductance(c: DcCable) -> f64
     ensures { λ r. ⌜ r ≡ inductance c ⌝ }
 {
@@ -134,7 +135,7 @@ fn read_capacitances(
     }
 }
 
-// A fault on a cable that the grid does not have drains nothing.
+// What a fault drains: nothing where the grid does not have its cable.
 pub fn drain_of(g: DcSwitchingSimulator, fault: DcFaultEvent) -> Drain
     ensures { λ r. ⌜ r ≡ drainOf g fault ⌝ }
 {
@@ -152,7 +153,7 @@ pub fn drain_of(g: DcSwitchingSimulator, fault: DcFaultEvent) -> Drain
     no_drain()
 }
 
-// For a step without a fault.
+// No drain, as in a step without a fault: its ends are no stations.
 pub fn no_drain() -> Drain
     ensures { λ r. ⌜ r ≡ noDrain ⌝ }
 {

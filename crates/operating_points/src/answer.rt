@@ -17,7 +17,7 @@ pub struct PointAnswer {
     pub point: ConverterOperatingPoint,
 }
 
-// A station's point, if the station is accepted.
+// The station's point where rule 6 accepts the station, else a point of zeros.
 fn answered(station: ConverterStation, point: ConverterOperatingPoint) -> PointAnswer
     ensures verdict { λ r. ⌜ numberOf (r .verdict) ≡ pointRefusal station ⌝ }
     ensures point { λ r. ⌜ r .point ≡ accepted station point ⌝ }

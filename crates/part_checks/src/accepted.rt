@@ -25,6 +25,7 @@ fn check_topology(topology: ConverterTopology) -> bool
     }
 }
 
+// Whether every field of a station is in its range.
 pub fn check_station(s: ConverterStation) -> bool
     ensures { λ r. ⌜ r ≡ stationOk s ⌝ }
 {
@@ -42,6 +43,7 @@ pub fn check_station(s: ConverterStation) -> bool
     kv & mw & x & scr & angle & xc & arm & sm & id & t
 }
 
+// Whether every field of a cable is in its range.
 pub fn check_cable(c: DcCable) -> bool
     ensures { λ r. ⌜ r ≡ cableOk c ⌝ }
 {
@@ -80,6 +82,7 @@ fn check_breaker_type(breaker_type: DcBreakerType) -> bool
     }
 }
 
+// Whether every field of a breaker is in its range, the times of its kind among them.
 pub fn check_breaker(b: DcBreaker) -> bool
     ensures { λ r. ⌜ r ≡ breakerOk b ⌝ }
 {
@@ -92,6 +95,7 @@ pub fn check_breaker(b: DcBreaker) -> bool
     times & current & energy & id & station
 }
 
+// Whether every field of a fault is in its range.
 pub fn check_event(f: DcFaultEvent) -> bool
     ensures { λ r. ⌜ r ≡ faultOk f ⌝ }
 {
@@ -102,6 +106,7 @@ pub fn check_event(f: DcFaultEvent) -> bool
     resistance & fraction & inception & cable
 }
 
+// Whether every field of a sweep order is in its range, and its tenths are in order.
 pub fn check_order(o: SweepOrder) -> bool
     ensures { λ r. ⌜ r ≡ orderOk o ⌝ }
 {

@@ -9,7 +9,7 @@ pub enum Stop {
     Refused,
 }
 
-// 01's number of a refusal; the others are numbered from 0.
+// The number of a stop: 0 finished, 1 spent, 2 full, and 01's 11 for a refusal.
 pub fn number(stop: Stop) -> u64
     ensures { λ r. ⌜ r ≡ numberOf stop ⌝ }
 {
@@ -21,7 +21,7 @@ pub fn number(stop: Stop) -> u64
     }
 }
 
-// Of an advance that stops, where none are left or the allowance is made or no whole item fits.
+// Why an advance stops: finished if no step is left, else spent if the allowance is made, else full.
 pub fn reason(ended: bool, spent: bool) -> Stop
     ensures { λ r. ⌜ r ≡ reasonOf ended spent ⌝ }
 {

@@ -27,7 +27,7 @@ pub struct Points {
     pub total_losses_mw: f64,
 }
 
-// From each station's voltage and current.
+// The points of n stations from their voltages and currents, zeros past them; and the sum of the losses handed in and theirs.
 pub fn operating_points(
     stations: [ConverterStation; MOST_STATIONS],
     v: &[f64; MOST_STATIONS],
@@ -55,6 +55,7 @@ pub fn operating_points(
     }
 }
 
+// A station's point in the flow: power, voltage and current are the flow's, the angle, the power factor and the losses are the converter's.
 fn operating_point(station: ConverterStation, v: f64, current: f64) -> ConverterOperatingPoint
     ensures { λ r. ⌜ r ≡ operatingPoint station v current ⌝ }
 {
@@ -71,6 +72,7 @@ fn operating_point(station: ConverterStation, v: f64, current: f64) -> Converter
     }
 }
 
+// The converter's own point: an LCC at the size of the current, any other at the size of the power.
 fn converter_point(
     station: ConverterStation,
     v: f64,
@@ -98,7 +100,7 @@ fn is_lcc(topology: ConverterTopology) -> bool
     }
 }
 
-// The losses of all cables, into zeros.
+// The losses of all cables in MW, into zeros.
 pub fn cable_losses(
     losses: &mut [f64; MOST_CABLES],
     cables: [DcCable; MOST_CABLES],
@@ -117,7 +119,7 @@ pub fn cable_losses(
     }
 }
 
-// An end at or past the count is cut to the last station.
+// A cable's loss in MW. An end at or past the count is cut to the last station.
 fn cable_loss(c: DcCable, v: &[f64; MOST_STATIONS], n: usize) -> f64
     requires { ⌜ n ≤ 32 ⌝ }
     ensures { λ r. ⌜ r ≡ cableLoss n (now (v .entry)) c ⌝ }
@@ -129,6 +131,7 @@ fn cable_loss(c: DcCable, v: &[f64; MOST_STATIONS], n: usize) -> f64
     abs(i * i * r)
 }
 
+// The sum of the losses of all cables, in their order.
 pub fn sum_losses(losses: &[f64; MOST_CABLES], n_cables: usize) -> f64
     requires { ⌜ «n_cables» ≤ 64 ⌝ }
     ensures { λ r. ⌜ r ≡ sumOf (of (now (losses .entry))) «n_cables» ⌝ }

@@ -22,6 +22,7 @@ pub struct RecordCounts {
     pub breakers: usize,
 }
 
+// How many of each the records of a grid have: its counts, cut to the arrays.
 pub fn record_counts(g: DcSwitchingSimulator) -> RecordCounts
     ensures { λ r. ⌜ r ≡ countsOf g ⌝ }
 {
@@ -50,7 +51,7 @@ pub fn put_if_recorded(
     0
 }
 
-// No more parts than a state has places for, and the whole record within the memory.
+// Whether a state has places for so many parts, and the whole record lies within the memory.
 fn fits(counts: RecordCounts, at: usize, len: usize) -> bool
     ensures { λ r. ⌜ r ≡ fitsIn counts at len ⌝ }
 {
@@ -92,7 +93,7 @@ fn put_record(records: &mut [f64], at: usize, state: DcTransientState, counts: R
     put_breakers(records, cable_currents + m, &breakers, counts.breakers);
 }
 
-// n numbers from the first on.
+// Writes n numbers, those from `first` on.
 fn put_numbers(records: &mut [f64], at: usize, numbers: &[f64], first: usize, n: usize)
     requires { ⌜ (at + n ≤ length (now records)) × (first + n ≤ length (now numbers)) ⌝ }
     ensures { λ _. ⌜ now (records .exit) ≡ sets (now (records .entry)) at (tab n (λ i. of (now (numbers .entry)) (first + i))) ⌝ }
@@ -104,7 +105,7 @@ fn put_numbers(records: &mut [f64], at: usize, numbers: &[f64], first: usize, n:
     }
 }
 
-// 1 closed, 0 open.
+// Writes n breakers, 1 closed and 0 open.
 fn put_breakers(records: &mut [f64], at: usize, breakers: &[bool; MOST_BREAKERS], n: usize)
     requires { ⌜ (at + n ≤ length (now records)) × (n ≤ 32) ⌝ }
     ensures { λ _. ⌜ now (records .exit) ≡ sets (now (records .entry)) at (tab n (λ i. closedNumber (getD (now (breakers .entry)) i false))) ⌝ }

@@ -12,7 +12,7 @@ use float64::min;
 use grid::MOST_STATIONS;
 use grid::present;
 
-// Each voltage a step nearer to the rated one.
+// Moves each voltage one step towards its rated one.
 pub fn recover_voltages(y: &mut [f64; 96], rated: &[f64; 96], n_stations: usize)
     ensures { λ _. ⌜ now (y .exit) ≡ over (min «n_stations» 32) (λ i. recovering (of (now (rated .entry)) i) (of (now (y .entry)) i)) nan (now (y .entry)) ⌝ }
 {
@@ -24,7 +24,7 @@ pub fn recover_voltages(y: &mut [f64; 96], rated: &[f64; 96], n_stations: usize)
     }
 }
 
-// A step's part of the rated voltage on the way back to it.
+// A voltage one step later: where it is below its rated one, nearer to that by a thousandth of it, and not past it; else as it is.
 fn recovered(v: f64, rated: f64) -> f64
     ensures { λ r. ⌜ r ≡ recovering rated v ⌝ }
 {
@@ -34,7 +34,7 @@ fn recovered(v: f64, rated: f64) -> f64
     v
 }
 
-// Each voltage is at least 0.9 of the rated one.
+// Whether each voltage is at least 0.9 of its rated one.
 pub fn all_recovered(y: &[f64; 96], rated: &[f64; 96], n_stations: usize) -> bool
     ensures { λ r. ⌜ r ≡ each (min «n_stations» 32) (λ i. le (recoveredPart ⊗ of (now (rated .entry)) i) (of (now (y .entry)) i)) ⌝ }
 {
@@ -56,7 +56,7 @@ fn has_recovered(v: f64, rated: f64) -> bool
     0.9 * rated <= v
 }
 
-// No voltage is below its rated one. A NaN is not.
+// Whether no voltage is below its rated one. A NaN is not below.
 pub fn none_below(y: &[f64; 96], rated: &[f64; 96], n_stations: usize) -> bool
     ensures { λ r. ⌜ r ≡ each (min «n_stations» 32) (λ i. not (lt (of (now (y .entry)) i) (of (now (rated .entry)) i))) ⌝ }
 {

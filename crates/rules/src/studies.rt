@@ -38,6 +38,7 @@ const SWITCHING: [u64; 7] = [3, 1, 4, 5, 6, 7, 8];
 
 const FAULT: [u64; 9] = [3, 1, 2, 4, 5, 6, 7, 8, 9];
 
+// The first rule that refuses a flow of a grid, or that none does.
 pub fn check_flow(g: DcSwitchingSimulator) -> Verdict
     ensures { λ r. ⌜ numberOf r ≡ flowRefusal g ⌝ }
 {
@@ -45,6 +46,7 @@ pub fn check_flow(g: DcSwitchingSimulator) -> Verdict
     verdict_of(first_broken(&order, g, false))
 }
 
+// The first rule that refuses detection on a grid, or that none does.
 pub fn check_detection(g: DcSwitchingSimulator) -> Verdict
     ensures { λ r. ⌜ numberOf r ≡ detectionRefusal g ⌝ }
 {
@@ -52,6 +54,7 @@ pub fn check_detection(g: DcSwitchingSimulator) -> Verdict
     verdict_of(first_broken(&order, g, false))
 }
 
+// The first rule that refuses a switching run, or that none does.
 pub fn check_switching(g: DcSwitchingSimulator) -> Verdict
     ensures { λ r. ⌜ numberOf r ≡ switchingRefusal g ⌝ }
 {
@@ -59,6 +62,7 @@ pub fn check_switching(g: DcSwitchingSimulator) -> Verdict
     verdict_of(first_broken(&order, g, false))
 }
 
+// The first rule that refuses a fault run, or that none does.
 pub fn check_fault(g: DcSwitchingSimulator, fault: DcFaultEvent) -> Verdict
     ensures { λ r. ⌜ numberOf r ≡ faultRefusal g fault ⌝ }
 {
@@ -67,7 +71,7 @@ pub fn check_fault(g: DcSwitchingSimulator, fault: DcFaultEvent) -> Verdict
     verdict_of(first_broken(&order, g, !inside))
 }
 
-// Up to rule 9: 10 is left to the sweep's start, which alone solves the flow.
+// The first rule up to 9 that refuses a sweep, or that none does. 10 is left to the sweep's start, which alone solves the flow.
 pub fn check_sweep(g: DcSwitchingSimulator, o: SweepOrder) -> Verdict
     ensures { λ r. ⌜ numberOf r ≡ sweepRefusal g o ⌝ }
 {
@@ -76,6 +80,7 @@ pub fn check_sweep(g: DcSwitchingSimulator, o: SweepOrder) -> Verdict
     verdict_of(first_broken(&order, g, !within))
 }
 
+// Rule 6 where it refuses a station, or that it does not.
 pub fn check_operating_point(station: ConverterStation) -> Verdict
     ensures { λ r. ⌜ numberOf r ≡ pointRefusal station ⌝ }
 {

@@ -10,7 +10,7 @@ use grid::MOST_STATIONS;
 use grid::present;
 use std::num::nearest_u64_to_f64;
 
-// Steps are numbered from 0.
+// The time of a step in milliseconds. Steps are numbered from 0.
 pub fn step_time_ms(dt_ms: f64, step: u64) -> f64
     ensures { λ r. ⌜ r ≡ timeAt «dt_ms» step ⌝ }
 {
@@ -33,7 +33,7 @@ pub fn rated_voltages(g: DcSwitchingSimulator) -> [f64; 96]
     y
 }
 
-// So many breakers, all closed or all open; open past them.
+// The states of n_breakers breakers, all closed or all open; open past them.
 pub fn breakers_all(n_breakers: usize, closed: bool) -> [bool; MOST_BREAKERS]
     ensures { λ r. ⌜ r ≡ padded 32 (min «n_breakers» 32) (λ _. closed) false ⌝ }
 {

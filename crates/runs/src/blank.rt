@@ -6,7 +6,7 @@ use grid::MOST_BREAKERS;
 use grid::MOST_STATIONS;
 use state_derivatives::DcTransientState;
 
-// `new` raises both times, so they are set again.
+// A grid that is all zero. `new` raises both times, so they are set again.
 pub fn blank_grid() -> DcSwitchingSimulator
     ensures { λ r. ⌜ r ≡ blankGrid ⌝ }
 {
@@ -16,6 +16,7 @@ pub fn blank_grid() -> DcSwitchingSimulator
     g
 }
 
+// A state that is all zero and false.
 pub fn blank_state() -> DcTransientState
     ensures { λ r. ⌜ r ≡ blankState ⌝ }
 {

@@ -7,6 +7,8 @@ use Rattle.sheet_bytes.proofs.bytes.stopped as stopped-contract
 use Rattle.sheet_bytes.proofs.bytes.stopped.Reads as stopped-reads
 use Rattle.sheet_bytes.proofs.bytes.feed as feed-contract
 use Rattle.sheet_bytes.proofs.bytes.feed.Reads as feed-reads
+use Rattle.sheet_bytes.proofs.bytes.ended as ended-contract
+use Rattle.sheet_bytes.proofs.bytes.ended.Reads as ended-reads
 
 module _ (κs : Lfts 0) where
   pub start-any : (a : ArgsD start-contract.signature κs) → start-reads.Asked κs a
@@ -14,6 +16,9 @@ module _ (κs : Lfts 0) where
 
   pub stopped-any : (a : ArgsD stopped-contract.signature κs) → stopped-reads.Asked κs a
   stopped-any a = tt
+
+  pub ended-any : (a : ArgsD ended-contract.signature κs) → ended-reads.Asked κs a
+  ended-any a = tt
 
 module _ (κs : Lfts 1) where
   pub feed-any : (a : ArgsD feed-contract.signature κs) → feed-reads.Asked κs a

@@ -5,16 +5,12 @@ use grid::ConverterStation;
 use grid::DcBreaker;
 use grid::DcCable;
 use grid::DcSwitchingSimulator;
+use grid::MOST_BREAKERS;
+use grid::MOST_CABLES;
+use grid::MOST_STATIONS;
 
 // The widest line number that a refusal can print. Reading stops there.
 pub const MOST_LINES: usize = 999_999_999_999;
-
-// The length of a grid's arrays.
-const MOST_STATIONS: usize = 32;
-
-const MOST_CABLES: usize = 64;
-
-const MOST_BREAKERS: usize = 32;
 
 // One more. A sheet has at most MOST_LINES lines, so that no count of them goes beyond.
 pub fn counted_on(count: usize) -> usize
@@ -23,6 +19,7 @@ pub fn counted_on(count: usize) -> usize
     if count < MOST_LINES { count + 1 } else { count }
 }
 
+// A grid with a station more. Past the last place it is counted, and not kept.
 pub fn with_station(g: DcSwitchingSimulator, station: ConverterStation) -> DcSwitchingSimulator
     ensures { λ r. ⌜ r ≡ stationTaken g station ⌝ }
 {
@@ -36,6 +33,7 @@ pub fn with_station(g: DcSwitchingSimulator, station: ConverterStation) -> DcSwi
     grid
 }
 
+// A grid with a cable more. Past the last place it is counted, and not kept.
 pub fn with_cable(g: DcSwitchingSimulator, cable: DcCable) -> DcSwitchingSimulator
     ensures { λ r. ⌜ r ≡ cableTaken g cable ⌝ }
 {
@@ -49,6 +47,7 @@ pub fn with_cable(g: DcSwitchingSimulator, cable: DcCable) -> DcSwitchingSimulat
     grid
 }
 
+// A grid with a breaker more. Past the last place it is counted, and not kept.
 pub fn with_breaker(g: DcSwitchingSimulator, breaker: DcBreaker) -> DcSwitchingSimulator
     ensures { λ r. ⌜ r ≡ breakerTaken g breaker ⌝ }
 {

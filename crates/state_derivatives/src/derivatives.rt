@@ -101,7 +101,7 @@ fn add_currents(
     }
 }
 
-// Into the station at its second end, and out of the one at its first unless the two are one.
+// Adds a cable's current to the station at its second end, and takes it off the one at its first unless the two are one. An end past the count has no station.
 fn pass_current(nets: &mut [f64; MOST_STATIONS], from: usize, to: usize, current: f64, n: usize)
     requires { ⌜ n ≤ 32 ⌝ }
     ensures { λ _. ⌜ now (nets .exit) ≡ over n (λ i. passed from to current i (of (now (nets .entry)) i)) nan (now (nets .entry)) ⌝ }
@@ -116,7 +116,7 @@ fn pass_current(nets: &mut [f64; MOST_STATIONS], from: usize, to: usize, current
     }
 }
 
-// Out of the stations at both ends of the faulted cable, once if the two are one.
+// Takes the drain off the stations at both ends of the faulted cable, once if the two are one.
 fn drain_ends(nets: &mut [f64; MOST_STATIONS], drain: Drain, y: &[f64; 96], n: usize)
     requires { ⌜ n ≤ 32 ⌝ }
     ensures { λ _. ⌜ now (nets .exit) ≡ over n (λ i. drained drain (now (y .entry)) i (of (now (nets .entry)) i)) nan (now (nets .entry)) ⌝ }
@@ -133,13 +133,14 @@ fn drain_ends(nets: &mut [f64; MOST_STATIONS], drain: Drain, y: &[f64; 96], n: u
     }
 }
 
+// What is drained at an end of this voltage, in kA.
 fn drain_current(drain: Drain, v_kv: f64) -> f64
     ensures { λ r. ⌜ r ≡ drainCurrent drain «v_kv» ⌝ }
 {
     v_kv * 1000.0 / drain.resistance * drain.fraction
 }
 
-// The rates of the voltages, into zeros.
+// The rates of the voltages in kV/s, into zeros.
 fn station_rates(
     dy: &mut [f64; 96],
     nets: &[f64; MOST_STATIONS],
@@ -166,7 +167,7 @@ fn station_rate(s: StationStage) -> f64
     s.net_current_ka / s.capacitance_f
 }
 
-// The rates of the currents, after those of the voltages.
+// The rates of the cable currents in kA/s, behind those of the voltages. The ends of a cable are cut to the last station.
 fn cable_rates(
     dy: &mut [f64; 96],
     from: &[usize; MOST_CABLES],

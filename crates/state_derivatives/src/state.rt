@@ -8,7 +8,7 @@ pub struct DcTransientState {
     pub y: [f64; 96],
     pub station_currents_ka: [f64; MOST_STATIONS],
     pub fault_current_ka: f64,
-    // Closed or not.
+    // Whether each is closed.
     pub breaker_states: [bool; MOST_BREAKERS],
 }
 

@@ -44,11 +44,13 @@ pub fn print_rows(memory: &[u64; MEMORY], rows: u64) -> bool {
     true
 }
 
+// The line of totals.
 pub fn print_end(cases: u64, steps: u64) -> bool {
     let text = end_text(cases, steps);
     io::write_all(STDOUT_FILENO, &text)
 }
 
+// The line of a refusal.
 pub fn print_refusal(number: u64, line: u64) -> bool {
     let text = refusal_text(number, line);
     io::write_all(STDOUT_FILENO, &text)

@@ -31,12 +31,13 @@ pub struct Common {
     pub order: SweepOrder,
     pub network: Network,
     pub rated_kv: [f64; 96],
-    // Of a case.
+    // The steps of one case.
     pub n_steps: u64,
     // The steps in which the fault of a case lasts, from its first step on: the same for each case. Empty where the call closes none.
     pub window: Window,
 }
 
+// What the cases of any grid and order have in common, for a call that closes cases or does not.
 pub fn common_of(g: DcSwitchingSimulator, order: SweepOrder, closes: bool) -> Common
     ensures { λ r. ⌜ r ≡ commonOf g order closes ⌝ }
 {
@@ -54,7 +55,7 @@ pub fn common_of(g: DcSwitchingSimulator, order: SweepOrder, closes: bool) -> Co
     }
 }
 
-// Only for a call that closes cases: one of a few steps is not to look through all steps of a case.
+// The steps in which the fault of a case lasts. They are looked for only where a call closes cases: one of a few steps is not to look through all steps of a case.
 fn window_of(g: DcSwitchingSimulator, order: SweepOrder, n_steps: u64, closes: bool) -> Window
     ensures { λ r. ⌜ r ≡ windowFor g order «n_steps» closes ⌝ }
 {
@@ -75,7 +76,7 @@ fn window_of(g: DcSwitchingSimulator, order: SweepOrder, n_steps: u64, closes: b
     }
 }
 
-// How many steps of a case a call makes that leaves it open: what is allowed, but not the last. None where none is left.
+// How many steps of a case a call makes that leaves it open: as many as are allowed, but not the last one; 0 where none is left.
 pub fn steps_left_open(left: u64, allowed: u64) -> u64
     ensures { λ r. ⌜ r ≡ min allowed (left - 1) ⌝ }
 {
@@ -88,7 +89,7 @@ pub fn steps_left_open(left: u64, allowed: u64) -> u64
     left - 1
 }
 
-// The steps of case k from a number up to another, which is not made. The circuit and the drain are worked out once.
+// Case k after the steps from the number `first` up to `end`, which is not made. The circuit and the drain are worked out once.
 pub fn make_steps(common: Common, k: u64, first: u64, end: u64, c: OpenCase) -> OpenCase
     ensures { λ r. ⌜ r ≡ planCaseFrom (planFor common k) first c (end - first) ⌝ }
 {

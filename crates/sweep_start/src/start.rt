@@ -19,7 +19,7 @@ pub struct StartedSweep {
     pub sweep: Sweep,
 }
 
-// Solves the flow once the rules 1 to 9 let the grid and the order pass. Beside a refusal stands a sweep of zeros, which every advance refuses.
+// Solves the flow once the rules 1 to 9 let the grid and the order pass. Beside a refusal stands a sweep that is all zero and false, which every advance refuses.
 pub fn start_sweep(g: DcSwitchingSimulator, order: SweepOrder) -> StartedSweep
     ensures refusal { λ r. ⌜ numberOf (r .verdict) ≡ sweepRefused g order ⌝ }
     ensures answer { λ r. ⌜ r .sweep ≡ startedSweep g order ⌝ }

@@ -34,6 +34,7 @@ pub struct SwitchingPlan {
     pub switching_time_ms: f64,
 }
 
+// What stays the same in the steps of any operation on any grid. It comes when a tenth of the duration is over.
 pub fn switching_plan(g: DcSwitchingSimulator, breaker_id: u64, open: bool) -> SwitchingPlan
     ensures { λ r. ⌜ r ≡ switchingPlanOf g «breaker_id» «open» ⌝ }
 {
@@ -76,7 +77,7 @@ pub fn first_switching_variables(g: DcSwitchingSimulator, open: bool) -> Switchi
     }
 }
 
-// The current that rated voltages drive through each cable, after the voltages.
+// Writes the current that rated voltages drive through each cable, behind the voltages.
 fn drive_currents(
     y: &mut [f64; 96],
     stations: [ConverterStation; MOST_STATIONS],
@@ -95,7 +96,7 @@ fn drive_currents(
     }
 }
 
-// Its ends are cut to the last station.
+// The current in kA that rated voltages drive through a cable. Its ends are cut to the last station.
 fn driven_current(stations: [ConverterStation; MOST_STATIONS], n: usize, c: DcCable) -> f64
     requires { ⌜ n ≤ 32 ⌝ }
     ensures { λ r. ⌜ r ≡ drivenCurrent stations n c ⌝ }

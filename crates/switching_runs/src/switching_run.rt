@@ -32,7 +32,7 @@ pub struct AdvancedSwitchingRun {
     pub run: SwitchingRun,
 }
 
-// Rule 11.
+// Whether rule 11 refuses a kept run.
 fn switching_run_refused(run: SwitchingRun) -> bool
     ensures { λ r. ⌜ r ≡ switchingRunRefused run ⌝ }
 {

@@ -16,7 +16,7 @@ pub struct StartedSwitchingRun {
     pub run: SwitchingRun,
 }
 
-// DcSwitchingSimulator::simulate_switching, up to its loop. Beside a refusal stands a run of zeros.
+// DcSwitchingSimulator::simulate_switching, up to its loop. Beside a refusal stands a run that is all zero and false.
 pub fn simulate_switching(
     g: DcSwitchingSimulator,
     breaker_id: u64,

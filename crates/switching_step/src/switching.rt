@@ -16,7 +16,7 @@ use switching_plan::SwitchingPlan;
 use switching_plan::SwitchingVariables;
 use transient::rk4_step;
 
-// One step, numbered from 0.
+// The variables after a step; steps are numbered from 0. The first step whose time has come operates the breakers before it moves the state.
 pub fn switching_step(plan: SwitchingPlan, step: u64, v: SwitchingVariables) -> SwitchingVariables
     ensures { λ r. ⌜ r ≡ switchingPlanStep plan step v ⌝ }
 {
@@ -55,7 +55,7 @@ pub fn switching_step(plan: SwitchingPlan, step: u64, v: SwitchingVariables) -> 
     }
 }
 
-// Sets the breaker of a number, or all where the grid has none of that number.
+// Sets the breaker of a number, or all where the grid has none of that number, in the step that switches.
 fn operate(
     breakers: &mut [bool; MOST_BREAKERS],
     switches: bool,
@@ -86,6 +86,7 @@ fn set_operated(breakers: &mut [bool; MOST_BREAKERS], n: usize, breaker_id: u64,
     }
 }
 
+// Whether breaker i of n is closed after the operation.
 fn operated(closed: bool, i: u64, n: u64, breaker_id: u64, open: bool) -> bool
     ensures { λ r. ⌜ r ≡ cond (isOperated n «breaker_id» i) (not «open») closed ⌝ }
 {
@@ -95,7 +96,7 @@ fn operated(closed: bool, i: u64, n: u64, breaker_id: u64, open: bool) -> bool
     closed
 }
 
-// Opening halves the cable currents.
+// Halves the cable currents in the step that opens.
 fn interrupt(y: &mut [f64; 96], opens: bool, n_stations: usize, n_cables: usize)
     ensures { λ _. ⌜ now (y .exit) ≡ cond opens (interrupted (stationCount «n_stations») (cableCount «n_cables») (now (y .entry))) (now (y .entry)) ⌝ }
 {

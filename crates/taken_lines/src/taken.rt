@@ -27,6 +27,7 @@ pub struct Sheet {
     pub refusal: u64,
 }
 
+// A sheet of which no line is read.
 pub fn empty_sheet() -> Sheet
     ensures { λ r. ⌜ r ≡ emptySheet ⌝ }
 {

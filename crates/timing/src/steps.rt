@@ -56,6 +56,7 @@ pub fn record_interval(total_steps: u64) -> u64
     if n < 1 { 1 } else { n }
 }
 
+// Whether a run of so many steps records a step: a multiple of the interval, or the last one.
 pub fn is_recorded(step: u64, total_steps: u64) -> bool
     ensures { λ r. ⌜ r ≡ recorded «total_steps» step ⌝ }
 {

@@ -22,7 +22,7 @@ use state_derivatives::StageState;
 use state_derivatives::net_currents;
 use state_derivatives::state_derivatives;
 
-// A stage ahead of the start: so many seconds on.
+// A stage whose slopes are taken `ahead_s` seconds after the start.
 struct Stage {
     setting: StageSetting,
     ahead_s: f64,
@@ -135,7 +135,7 @@ fn move_along(start: StageState, h: f64, k: StageSlopes, size: usize) -> StageSt
     StageState { y: out }
 }
 
-// Where the slopes of all four stages together lead, of which a sixth of the step is handed in.
+// Where the slopes of all four stages together lead. `sixth` is a sixth of the step in seconds.
 fn blend(
     start: StageState,
     sixth: f64,
@@ -168,13 +168,14 @@ fn blend(
     StageState { y: out }
 }
 
+// k1 + 2 k2 + 2 k3 + k4, added from the left.
 fn weigh(s: Slopes) -> f64
     ensures { λ r. ⌜ r ≡ weighted (s .k1) (s .k2) (s .k3) (s .k4) ⌝ }
 {
     s.k1 + 2.0 * s.k2 + 2.0 * s.k3 + s.k4
 }
 
-// New voltages are at least 0.
+// The state with each voltage at least 0, and its cable currents as they are.
 fn raise_voltages(moved: StageState, n: usize) -> StageState
     requires { ⌜ n ≤ 32 ⌝ }
     ensures { λ r. ⌜ r .y ≡ over n (λ i. maxOf (of (moved .y) i) nought) nan (moved .y) ⌝ }

@@ -11,7 +11,8 @@ use float64::clamp;
 use grid::MOST_STATIONS;
 use grid::present;
 
-// A pass's voltages after it, from mismatches d that were all taken before it and the conductances m. A count past the arrays takes all of them.
+// Moves the voltages by one pass, with mismatches d that were all taken before it and the conductances m. Of two stations the second is moved and not clamped.
+// A count past the arrays takes all of them.
 pub fn move_voltages(
     v: &mut [f64; MOST_STATIONS],
     rated: &[f64; MOST_STATIONS],
@@ -30,7 +31,8 @@ pub fn move_voltages(
     }
 }
 
-// The divisor of a station sees the stations before it as they have moved.
+// Moves the stations behind the first one after the other, each clamped to 0.5 to 1.5 of its rated voltage. The divisor of a station sees those before it as
+// they have moved.
 fn move_each(
     v: &mut [f64; MOST_STATIONS],
     rated: &[f64; MOST_STATIONS],
@@ -50,6 +52,7 @@ fn move_each(
     }
 }
 
+// What a station's mismatch is divided by: how its power changes with its own voltage.
 fn divisor(m: &[f64; 1024], v: &[f64; MOST_STATIONS], i: usize, n: usize) -> f64
     requires { ⌜ (i < n) × (n ≤ 32) ⌝ }
     ensures { λ r. ⌜ r ≡ specs.divisor (now (m .entry)) n (now (v .entry)) i ⌝ }
@@ -80,7 +83,7 @@ fn add_products(
     sum
 }
 
-// A divisor near zero moves nothing.
+// The voltage moved by mismatch / divisor. A divisor near zero moves nothing.
 fn moved(v: f64, mismatch: f64, divisor: f64) -> f64
     ensures { λ r. ⌜ r ≡ specs.moved v mismatch divisor ⌝ }
 {

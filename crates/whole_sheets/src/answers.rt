@@ -8,7 +8,7 @@ pub struct Refusal {
     pub line: u64,
 }
 
-// Beside a refusal stand an empty grid and an order of zeros.
+// Beside a refusal stand a grid without parts and an order that is all zero.
 pub struct SheetAnswer {
     pub refusal: Refusal,
     pub grid: DcSwitchingSimulator,
