@@ -4,8 +4,7 @@
 use crate::dc_switching::{time_step_ms, total_steps};
 use crate::grids::{self, Grid, BREAKERS, CABLES, STATIONS};
 use crate::jobs::{
-    has_order, is_point, runs, DETECTION, FAULT_RUN, FLOATS, STEP, SWEEP, SWITCHING_RUN,
-    TIMED_FAULT_RUN,
+    has_grid, has_order, runs, DETECTION, FAULT_RUN, STEP, SWEEP, SWITCHING_RUN, TIMED_FAULT_RUN,
 };
 use crate::rules;
 use std::ops::Range;
@@ -182,8 +181,7 @@ fn order_at(job: &[u64]) -> usize {
 
 /// The grid of a job, if it has one.
 fn grid(job: &[u64]) -> Option<Grid> {
-    let has_grid = job[0] != FLOATS && !is_point(job[0]);
-    has_grid.then(|| grids::grid_of(job[0], &mut job[1..].iter().copied()))?
+    has_grid(job[0]).then(|| grids::grid_of(job[0], &mut job[1..].iter().copied()))?
 }
 
 /// A list inside a job.
@@ -214,7 +212,7 @@ impl List {
 /// The lists of a job: stations, cables and breakers of its grid, and its calls.
 fn lists(job: &[u64]) -> Vec<List> {
     let number = job[0];
-    if number == FLOATS || is_point(number) {
+    if !has_grid(number) {
         return Vec::new();
     }
     let counts = if number == TIMED_FAULT_RUN { 5 } else { 3 };
@@ -258,7 +256,7 @@ fn lists(job: &[u64]) -> Vec<List> {
 mod tests {
     use super::*;
     use crate::draw::{self, Random};
-    use crate::jobs::{answer, before_refusal, FLOW, GRID_JOBS};
+    use crate::jobs::{answer, before_refusal, FLOATS, FLOW, GRID_JOBS, PRINTED};
     use crate::plan::MMC;
     use crate::sample;
 
@@ -366,6 +364,23 @@ mod tests {
         assert_eq!([operation, b], [1, 0]);
         let a = f64::from_bits(a);
         assert_eq!(a, format!("{a:.0e}").parse().unwrap());
+    }
+
+    /// The last bytes of what is printed are wrong from 1000 on.
+    #[test]
+    fn wrong_printed_value() {
+        let (small, _) = cut(PRINTED, |job| {
+            let mut answer = right(job);
+            if f64::from_bits(job[1]) >= 1000.0 {
+                answer[2] ^= 1;
+            }
+            answer
+        });
+        let [_, x] = small[..] else {
+            panic!("{small:?}");
+        };
+        let x = f64::from_bits(x);
+        assert_eq!(x, format!("{x:.0e}").parse().unwrap());
     }
 
     /// Without any of its rows a job is still whole, and no number is left over.

@@ -5,14 +5,15 @@ mod detections;
 mod flows;
 mod grids;
 mod points;
+mod printed;
 mod runs;
 pub mod sheets;
 mod steps;
 mod sweeps;
 
 use crate::jobs::{
-    is_kept, is_point, CIRCUIT, DETECTION, FAULT_RUN, FLOATS, FLOW, KEPT_SWEEP, STEP, SWEEP,
-    SWITCHING_RUN, TIMED_FAULT_RUN,
+    is_kept, is_point, CIRCUIT, DETECTION, FAULT_RUN, FLOATS, FLOW, KEPT_SWEEP, PRINTED, STEP,
+    SWEEP, SWITCHING_RUN, TIMED_FAULT_RUN,
 };
 use crate::plan::End;
 use std::f64::consts::PI;
@@ -66,6 +67,7 @@ pub fn job(number: u64, random: &mut Random) -> Drawn {
             numbers: floats(random),
             put: Vec::new(),
         },
+        PRINTED => printed::job(random),
         // One in four has values at the ends of what the rules accept.
         FLOW if random.below(4) > 0 => flows::job(random),
         DETECTION if random.below(4) > 0 => detections::job(random),

@@ -8,6 +8,7 @@ use crate::dc_switching::{
     clearing_time_ms, fastest_clearing_ms, record_interval, recorded_steps, time_step_ms,
     total_steps, ConverterOperatingPoint, DcSwitchingSimulator,
 };
+use crate::decimals;
 use crate::grids::{self, Grid, BREAKERS, CABLES, STATIONS};
 use crate::numbers::{bits, double};
 use crate::rules;
@@ -31,6 +32,8 @@ pub const STEP: u64 = 13;
 pub const CIRCUIT: u64 = 14;
 /// A fault run on a grid whose time step and duration are set directly, past `new`.
 pub const TIMED_FAULT_RUN: u64 = 15;
+/// A double as the program `sweep` prints it.
+pub const PRINTED: u64 = 16;
 
 /// The jobs on a grid or a part of one.
 pub const GRID_JOBS: [(u64, &str); 14] = [
@@ -49,6 +52,11 @@ pub const GRID_JOBS: [(u64, &str); 14] = [
     (CIRCUIT, "fault circuit"),
     (TIMED_FAULT_RUN, "fault run at set times"),
 ];
+
+/// Whether a job has a grid: neither float operations and printed values nor points.
+pub fn has_grid(job: u64) -> bool {
+    !matches!(job, FLOATS | PRINTED) && !is_point(job)
+}
 
 /// Whether a job is an operating point, which has a station and no grid.
 pub fn is_point(job: u64) -> bool {
@@ -99,6 +107,7 @@ pub fn answer(input: &mut impl Iterator<Item = u64>, output: &mut Vec<u64>) -> O
         TIMES => times(&grids::grid(input)?, output),
         STEP => transients::step(input, output)?,
         CIRCUIT => transients::circuit(input, output)?,
+        PRINTED => printed(input, output)?,
         _ => return None,
     }
     Some(())
@@ -223,6 +232,16 @@ fn floats(input: &mut impl Iterator<Item = u64>, output: &mut Vec<u64>) -> Optio
         _ => return None,
     };
     output.push(bits(result));
+    Some(())
+}
+
+/// How many bytes of a column a number of job 16's answer has, the first of them the highest.
+pub const PRINTED_BYTES: usize = 7;
+
+fn printed(input: &mut impl Iterator<Item = u64>, output: &mut Vec<u64>) -> Option<()> {
+    let column = decimals::column(double(input.next()?));
+    let parts = column.chunks_exact(PRINTED_BYTES);
+    output.extend(parts.map(|part| part.iter().fold(0, |n, &b| n << 8 | u64::from(b))));
     Some(())
 }
 
@@ -399,6 +418,17 @@ mod tests {
     }
 
     #[test]
+    fn bytes_of_a_printed_value() {
+        let answer = |x: f64| answered(&[PRINTED, x.to_bits()]).unwrap();
+        let bytes = |parts: [&[u8; 7]; 3]| {
+            parts.map(|part| part.iter().fold(0, |n, &b| 256 * n + u64::from(b)))
+        };
+        let parts = [b"       ", b"    -12", b".750000"];
+        assert_eq!(answer(-12.75), bytes(parts));
+        assert_eq!(answer(f64::INFINITY), bytes([b"*******"; 3]));
+    }
+
+    #[test]
     fn answers_of_their_length() {
         for job in sample::jobs() {
             let answer = answered(&job).unwrap();
@@ -411,11 +441,13 @@ mod tests {
                 FAULT_RUN | SWITCHING_RUN | TIMED_FAULT_RUN => run_length(&job, &answer),
                 SWEEP => sweep_length(&job, &answer),
                 FLOATS => continue,
+                PRINTED => 3,
                 TIMES => 7 + job[5].min(BREAKERS),
                 _ => 1,
             };
             let before = before_refusal(job[0]);
-            let refused = job[0] != TIMES && !is_kept(job[0]) && answer[before] != 0;
+            let refuses = !matches!(job[0], TIMES | PRINTED) && !is_kept(job[0]);
+            let refused = refuses && answer[before] != 0;
             let length = if refused { before as u64 + 1 } else { accepted };
             assert_eq!(answer.len() as u64, length, "{job:?}");
         }

@@ -2,6 +2,7 @@
 //! `cos` (`build.rs`), document 01's rules, and the jobs of the replay bench answered by them.
 
 pub mod cut;
+pub mod decimals;
 pub mod draw;
 pub mod grids;
 pub mod jobs;

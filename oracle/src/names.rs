@@ -3,7 +3,7 @@
 use crate::grids::{self, Grid};
 use crate::jobs::{
     before_refusal, has_fault, has_order, is_kept, is_point, runs, CIRCUIT, DETECTION, FLOATS,
-    FLOW, STEP, SWEEP, TIMED_FAULT_RUN, TIMES,
+    FLOW, PRINTED, STEP, SWEEP, TIMED_FAULT_RUN, TIMES,
 };
 
 const POINT: [&str; 7] = ["id", "P", "V", "I", "angle", "power factor", "losses"];
@@ -67,6 +67,9 @@ pub fn names(job: &[u64], answer: &[u64]) -> Vec<String> {
     let number = job[0];
     if number == FLOATS {
         return own(&["result"]);
+    }
+    if number == PRINTED {
+        return own(&["bytes 1 to 7", "bytes 8 to 14", "bytes 15 to 21"]);
     }
     if is_kept(number) {
         return own(&["stop, or 11 where it is refused"]);

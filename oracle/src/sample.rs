@@ -1,9 +1,10 @@
-//! The fixed jobs on grids that the program `replay` is run on.
+//! The fixed jobs that the program `replay` is run on, but for the float operations: those on grids, then printed values.
 
 mod circuits;
 mod detections;
 mod flows;
 mod points;
+mod printed;
 mod runs;
 mod steps;
 mod sweeps;
@@ -41,6 +42,7 @@ pub fn jobs() -> Vec<Vec<u64>> {
     runs::at_set_times(&mut plans);
     sweeps::sweeps(&mut plans);
     jobs.extend(plans.iter().map(Plan::numbers));
+    jobs.extend(printed::values());
     jobs
 }
 

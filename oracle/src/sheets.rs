@@ -2,6 +2,7 @@
 //! refusals; the rules 1 to 10 are those of `rules`, and the rows those of `jobs::sweeps`.
 
 use crate::dc_switching::DcSwitchingSimulator;
+use crate::decimals::column;
 use crate::grids::{self, Grid, SweepOrder};
 use crate::jobs::sweeps::{Row, Sweep};
 use crate::jobs::SWEEP;
@@ -98,8 +99,9 @@ impl fmt::Display for Answer {
             Answer::Swept { rows, cases, steps } => {
                 for [cable, fault_type, tenth, reasons, doubles @ ..] in rows {
                     write!(f, "R{cable:>4}{fault_type:>4}{tenth:>4}{reasons:>4}")?;
-                    for bits in doubles {
-                        write!(f, "{bits:>21}")?;
+                    for &bits in doubles {
+                        let column = column(double(bits));
+                        f.write_str(std::str::from_utf8(&column).expect("digits or stars"))?;
                     }
                     writeln!(f)?;
                 }
@@ -316,12 +318,30 @@ mod tests {
     #[test]
     fn worked_example() {
         let text = "\
-R   0   0   0   8                    0                    0                    0                    0
-R   0   1   0   8                    0                    0                    0                    0
-R   0   2   0   8                    0                    0                    0                    0
+R   0   0   0   8             0.000000             0.000000             0.000000             0.000000
+R   0   1   0   8             0.000000             0.000000             0.000000             0.000000
+R   0   2   0   8             0.000000             0.000000             0.000000             0.000000
 E           3           3
 ";
         assert_eq!(printed(&example()), text);
+    }
+
+    /// Rows have the bits of their doubles, and the lines what these are.
+    #[test]
+    fn columns_of_a_row() {
+        let doubles = [12.34567849, -0.0, f64::NAN, -1e12].map(f64::to_bits);
+        let mut row = [3, 1, 10, 14, 0, 0, 0, 0];
+        row[4..].copy_from_slice(&doubles);
+        let answer = Answer::Swept {
+            rows: vec![row],
+            cases: 1,
+            steps: 2,
+        };
+        let text = "\
+R   3   1  10  14            12.345678             0.000000******************************************
+E           1           2
+";
+        assert_eq!(answer.to_string(), text);
     }
 
     /// The sheets in `examples/`, each with its listing beside it.

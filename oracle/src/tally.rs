@@ -1,10 +1,11 @@
 //! What random jobs on grids met: their answers, the values at the ends of what the rules accept, and the kinds of what was
-//! accepted.
+//! accepted; and the kinds of printed values.
 
 mod circuits;
 mod detections;
 mod flows;
 mod points;
+mod printed;
 mod runs;
 mod steps;
 mod sweeps;
@@ -13,6 +14,7 @@ pub use circuits::Circuits;
 pub use detections::Detections;
 pub use flows::Flows;
 pub use points::Points;
+pub use printed::Printed;
 pub use runs::{FaultRuns, KeptRuns, SwitchingRuns, TimedFaultRuns};
 pub use steps::Steps;
 pub use sweeps::{KeptSweeps, Sweeps};
@@ -21,7 +23,7 @@ use crate::draw::Drawn;
 use crate::jobs::runs::REFUSED;
 use crate::jobs::{
     before_refusal, is_kept, is_point, CIRCUIT, DETECTION, FAULT_RUN, FLOW, GRID_JOBS, KEPT_SWEEP,
-    STEP, SWEEP, SWITCHING_RUN, TIMED_FAULT_RUN, TIMES,
+    PRINTED, STEP, SWEEP, SWITCHING_RUN, TIMED_FAULT_RUN, TIMES,
 };
 use crate::plan::End;
 use crate::rules;
@@ -49,6 +51,7 @@ pub struct Kinds {
     pub detections: Detections,
     pub steps: Steps,
     pub circuits: Circuits,
+    pub printed: Printed,
 }
 
 impl Kinds {
@@ -58,6 +61,7 @@ impl Kinds {
             KEPT_SWEEP => self.kept_sweeps.add(job, answer),
             number if is_kept(number) => self.kept_runs.add(job, answer),
             TIMES => {}
+            PRINTED => self.printed.add(job),
             number if answer[before_refusal(number)] != 0 => {}
             FLOW => self.flows.add(job, answer),
             number if is_point(number) => self.points.add(answer),
@@ -87,6 +91,7 @@ impl Kinds {
         all.extend(self.detections.counted());
         all.extend(self.steps.counted());
         all.extend(self.circuits.counted());
+        all.extend(self.printed.counted());
         all
     }
 }
@@ -134,14 +139,19 @@ impl fmt::Display for Kinds {
         write!(f, "{}{}", self.fault_runs, self.switching_runs)?;
         write!(f, "{}{}", self.timed_fault_runs, self.kept_runs)?;
         write!(f, "{}{}", self.sweeps, self.kept_sweeps)?;
-        write!(f, "{}{}{}", self.detections, self.steps, self.circuits)
+        write!(f, "{}{}{}", self.detections, self.steps, self.circuits)?;
+        write!(f, "{}", self.printed)
     }
 }
 
 impl Tally {
-    /// Adds a job on a grid with its answer.
+    /// Adds a job on a grid, or a printed value, with its answer.
     pub fn add(&mut self, job: &Drawn, numbers: &[u64]) {
         let number = job.numbers[0];
+        // Nothing is refused.
+        if number == PRINTED {
+            return self.kinds.add(&job.numbers, numbers);
+        }
         let answer = match numbers[before_refusal(number)] {
             _ if number == TIMES => 0,
             stop if is_kept(number) && stop != REFUSED => 0,
@@ -163,7 +173,7 @@ impl Tally {
     }
 
     pub fn is_empty(&self) -> bool {
-        self.answers.is_empty()
+        self.answers.is_empty() && self.kinds.printed.all() == 0
     }
 }
 
@@ -172,6 +182,16 @@ const ANSWERS: [u64; 12] = [0, 1, 2, 3, 4, 5, 6, 7, 8, 9, 10, REFUSED];
 
 impl fmt::Display for Tally {
     fn fmt(&self, f: &mut fmt::Formatter) -> fmt::Result {
+        if !self.answers.is_empty() {
+            self.write_answers(f)?;
+        }
+        write!(f, "{}", self.kinds)
+    }
+}
+
+impl Tally {
+    /// Of jobs on grids.
+    fn write_answers(&self, f: &mut fmt::Formatter) -> fmt::Result {
         writeln!(f, "Jobs by their answer, 0 or the rule that refuses:")?;
         write!(f, "{:<28}", "")?;
         for rule in ANSWERS {
@@ -211,7 +231,6 @@ impl fmt::Display for Tally {
                 }
             }
         }
-        writeln!(f)?;
-        write!(f, "{}", self.kinds)
+        writeln!(f)
     }
 }

@@ -1,17 +1,20 @@
 -- The claims of specs/Claims.antt, proved. Assumes nothing.
-use Prim.Native.Nat.{ℕ, zero, suc, _+_, _^_, _<_}
-use mathlib.Core.Path.{_≡_, refl, _∙_, ap}
+use Prim.Native.Nat.{ℕ, zero, suc, _+_, _*_, _^_, _<_}
+use mathlib.Core.Path.{_≡_, refl, sym, _∙_, ap}
 use mathlib.Core.List.{List, [], _∷_, _++_, append-assoc, append-nil}
 use native.Mathlib.Omega.{arith}
-use lib.ListN.{length, take, drop, replicate, length-append, length-take, length-drop, take-append-drop}
-use lib.Seq.{take-at, drop-at}
+use lib.ListN.{length, getD, take, drop, replicate, length-append, length-take, length-drop}
+use lib.Seq.{take-at, drop-at, drop-drop, getD-drop}
+use Rattle.float64.specs.Pattern.{doubleOf}
 use Rattle.field_columns.specs.Fields.{number, afterSpaces}
 use Rattle.printed_numbers.specs.Printed.{rightJustified}
 use Rattle.printed_numbers.proofs.Justified.{length-right-justified}
 use Rattle.column_claims.proofs.RoundTrip.{column-back}
-use Rattle.listing_text.specs.Lines.{columnsOf, rowText, endText, refusalText}
+use Rattle.decimals.specs.Decimals.{decimalColumn}
+use Rattle.decimals.proofs.Values.{length-column}
+use Rattle.listing_text.specs.Lines.{columnsOf, decimalsOf, rowText, endText, refusalText}
 use Rattle.listing_text.specs.Claims.{readBack, Fit, rowWidths, LineClaims}
-use Rattle.listing_text.proofs.Written.{length-columns}
+use Rattle.listing_text.proofs.Written.{length-columns, length-decimals}
 
 -- ---- lengths
 row-length : (row : List ℕ) → length row ≡ 8 → length (rowText row) ≡ 102
@@ -20,9 +23,9 @@ row-length row h =
     let f : length (take 4 row) ≡ 4 = length-take 4 row ∙ rw h in
     let g : length (drop 4 row) ≡ 4 = length-drop 4 row ∙ rw h in
     ap suc
-    (length-append (columnsOf 4 (take 4 row) ++ columnsOf 21 (drop 4 row)) (10 ∷ [])
-    ∙ ap (λ k. k + 1) (length-append (columnsOf 4 (take 4 row)) (columnsOf 21 (drop 4 row)))
-    ∙ omega (arith, length-columns 4 (take 4 row), length-columns 21 (drop 4 row)))
+    (length-append (columnsOf 4 (take 4 row) ++ decimalsOf (drop 4 row)) (10 ∷ [])
+    ∙ ap (λ k. k + 1) (length-append (columnsOf 4 (take 4 row)) (decimalsOf (drop 4 row)))
+    ∙ omega (arith, length-columns 4 (take 4 row), length-decimals (drop 4 row)))
 
 two-length : (b v w m n : ℕ) → length ((b ∷ []) ++ (rightJustified v m ++ rightJustified w n) ++ (10 ∷ [])) ≡ v + w + 2
 two-length b v w m n =
@@ -64,19 +67,41 @@ columns-back (suc k) w (n ∷ ns) vs rest h =
     ∙ one-back w n (replicate k w ++ vs) (columnsOf w ns ++ rest) (h .0) (h .1)
     ∙ ap (λ l. n ∷ l) (columns-back k w ns vs rest (h .2))
 
-fit-parts : (ws vs ns : List ℕ) → Fit (ws ++ vs) ns → Fit ws (take (length ws) ns) × Fit vs (drop (length ws) ns)
-fit-parts [] vs ns h = (tt, h)
-fit-parts (w ∷ ws) vs [] h = absurd h
-fit-parts (w ∷ ws) vs (n ∷ ns) h = let r = fit-parts ws vs ns (h .2) in ((h .0, h .1, r .0), r .1)
-
-row-back : (row : List ℕ) → Fit rowWidths row → readBack rowWidths (drop 1 (rowText row)) ≡ row
+row-back : (row : List ℕ) → Fit rowWidths (take 4 row) → readBack rowWidths (drop 1 (rowText row)) ≡ take 4 row
 unfolding rowText
 row-back row h =
-    let f = fit-parts (replicate 4 4) (replicate 4 21) row h in
-    ap (readBack rowWidths) (append-assoc (columnsOf 4 (take 4 row)) (columnsOf 21 (drop 4 row)) (10 ∷ []))
-    ∙ columns-back 4 4 (take 4 row) (replicate 4 21) (columnsOf 21 (drop 4 row) ++ (10 ∷ [])) (f .0)
-    ∙ ap (λ l. take 4 row ++ l) (columns-back 4 21 (drop 4 row) [] (10 ∷ []) (f .1) ∙ append-nil (drop 4 row))
-    ∙ take-append-drop 4 row
+    ap (readBack rowWidths) (append-assoc (columnsOf 4 (take 4 row)) (decimalsOf (drop 4 row)) (10 ∷ []))
+    ∙ columns-back 4 4 (take 4 row) [] (decimalsOf (drop 4 row) ++ (10 ∷ [])) h
+    ∙ append-nil (take 4 row)
+
+-- ---- the doubles
+decimal-at : (bs rest : List ℕ) (k : ℕ) → k < length bs → take 21 (drop (21 * k) (decimalsOf bs ++ rest)) ≡ decimalColumn (doubleOf (getD bs k 0))
+decimal-at [] rest k h = absurd (omega arith)
+decimal-at (b ∷ bs) rest zero h =
+    let c = decimalColumn (doubleOf b) in
+    ap (take 21) (append-assoc c (decimalsOf bs) rest) ∙ take-at c (decimalsOf bs ++ rest) 21 (length-column (doubleOf b))
+decimal-at (b ∷ bs) rest (suc k) h =
+    let c = decimalColumn (doubleOf b) in
+    let s : 21 * suc k ≡ 21 + 21 * k = omega arith in
+    ap (λ n. take 21 (drop n ((c ++ decimalsOf bs) ++ rest))) s
+    ∙ ap (take 21)
+    (sym (drop-drop (21 * k) 21 ((c ++ decimalsOf bs) ++ rest))
+    ∙ ap (drop (21 * k)) (ap (drop 21) (append-assoc c (decimalsOf bs) rest) ∙ drop-at c (decimalsOf bs ++ rest) 21 (length-column (doubleOf b))))
+    ∙ decimal-at bs rest k (omega arith)
+
+row-values : (row : List ℕ) (k : ℕ) → length row ≡ 8 → k < 4 → take 21 (drop (17 + 21 * k) (rowText row)) ≡ decimalColumn (doubleOf (getD row (4 + k) 0))
+unfolding rowText
+row-values row k l h =
+    let pre = (82 ∷ []) ++ columnsOf 4 (take 4 row) in
+    let rest = decimalsOf (drop 4 row) ++ (10 ∷ []) in
+    let f : length (take 4 row) ≡ 4 = length-take 4 row ∙ rw l in
+    let g : length (drop 4 row) ≡ 4 = length-drop 4 row ∙ rw l in
+    let n : length pre ≡ 17 = ap suc (length-columns 4 (take 4 row)) ∙ omega arith in
+    ap (take 21)
+    (sym (drop-drop (21 * k) 17 (rowText row))
+    ∙ ap (drop (21 * k)) (ap (λ z. drop 17 (82 ∷ z)) (append-assoc (columnsOf 4 (take 4 row)) (decimalsOf (drop 4 row)) (10 ∷ [])) ∙ drop-at pre rest 17 n))
+    ∙ decimal-at (drop 4 row) (10 ∷ []) k (omega arith)
+    ∙ ap (λ z. decimalColumn (doubleOf z)) (getD-drop 4 row k 0)
 
 two-back : (v w m n : ℕ) → Fit (v ∷ w ∷ []) (m ∷ n ∷ []) → readBack (v ∷ w ∷ []) ((rightJustified v m ++ rightJustified w n) ++ (10 ∷ [])) ≡ m ∷ n ∷ []
 two-back v w m n h =
@@ -94,4 +119,12 @@ refusal-back number at h = two-back 4 12 number at h
 
 pub line-claims : LineClaims
 line-claims =
-    record { row-length = row-length; end-length = end-length; refusal-length = refusal-length; row-back = row-back; end-back = end-back; refusal-back = refusal-back }
+    record {
+      row-length = row-length;
+      end-length = end-length;
+      refusal-length = refusal-length;
+      row-back = row-back;
+      end-back = end-back;
+      refusal-back = refusal-back;
+      row-values = row-values;
+    }

@@ -6,7 +6,10 @@ use contract.Lifetimes.{Lfts}
 use borrow.Fn.World.{ArgsD, ResD}
 use borrow.Fn.Kinds.{endedOf}
 use denote.Triple.Clauses.{AtExit}
-use lib.ListN.{drop}
+use Prim.Native.Nat.{ℕ, _+_, _*_, _<_}
+use lib.ListN.{length, getD, take, drop}
+use Rattle.float64.specs.Pattern.{doubleOf}
+use Rattle.decimals.specs.Decimals.{decimalColumn}
 use Rattle.listing_text.specs.Claims.{readBack, Fit, rowWidths}
 use Rattle.listing_text.proofs.Claims.{line-claims}
 use Rattle.listing_text.proofs.lines.row_text as row-contract
@@ -23,8 +26,11 @@ module _ (κs : Lfts 0) (a : ArgsD row-contract.signature κs) (r : ResD row-con
   pub row-any : row-reads.Asked κs a
   row-any = tt
 
-  pub row-read-back : row-reads.Learnt κs a r e → Fit rowWidths (a .0) → readBack rowWidths (drop 1 r) ≡ a .0
+  pub row-read-back : row-reads.Learnt κs a r e → Fit rowWidths (take 4 (a .0)) → readBack rowWidths (drop 1 r) ≡ take 4 (a .0)
   row-read-back h f = ap (λ t. readBack rowWidths (drop 1 t)) h ∙ line-claims .row-back (a .0) f
+
+  pub row-has-values : row-reads.Learnt κs a r e → (k : ℕ) → length (a .0) ≡ 8 → k < 4 → take 21 (drop (17 + 21 * k) r) ≡ decimalColumn (doubleOf (getD (a .0) (4 + k) 0))
+  row-has-values h k l m = ap (λ t. take 21 (drop (17 + 21 * k) t)) h ∙ line-claims .row-values (a .0) k l m
 
 module _ (κs : Lfts 0) (a : ArgsD end-contract.signature κs) (r : ResD end-contract.signature κs) (e : AtExit (endedOf 0 end-kinds.ps end-kinds.r) κs) where
   pub end-any : end-reads.Asked κs a

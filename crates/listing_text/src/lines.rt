@@ -1,29 +1,33 @@
 // The text of a line: a letter, numbers in columns, and a line feed.
 ghost use mathlib.Core.Path.{_≡_};
-ghost use Prim.Native.Nat.{_<_, _≤_};
-ghost use lib.ListN.{length};
+ghost use Prim.Native.Nat.{_+_, _*_, _<_, _≤_};
+ghost use lib.ListN.{length, getD};
+ghost use lib.Seq.{sets};
 ghost use Rattle.listing_text.specs.Lines.{rowText, endText, refusalText};
-ghost use Rattle.listing_text.specs.Puts.{twoPut, putAll};
+ghost use Rattle.lists.specs.Tables.{tab};
+ghost use Rattle.listing_text.specs.Puts.{twoPut, putAll, putValues};
+use decimals::decimal_column;
+use float64::from_bits;
 use printed_numbers::put_number;
 
-// The columns of a number of a case or a rule, of a count or a line number, and of the bits of a double.
+// The columns of a number of a case or a rule, of a count or a line number, and of a double.
 const NUMBER_WIDTH: usize = 4;
 
 const COUNT_WIDTH: usize = 12;
 
-const BITS_WIDTH: usize = 21;
+const VALUE_WIDTH: usize = 21;
 
-// Where the bits of a row begin: behind the letter and four numbers.
-const BITS_AT: usize = 17;
+// Where the doubles of a row begin: behind the letter and four numbers.
+const VALUES_AT: usize = 17;
 
-// A row: R, its first four numbers in columns of 4, and the four bit patterns in columns of 21.
+// A row: R, its first four numbers in columns of 4, and the doubles whose bits are the other four as decimals in columns of 21.
 pub fn row_text(row: [u64; 8]) -> [u8; 102]
     ensures { λ r. ⌜ r ≡ rowText row ⌝ }
 {
     let mut text = [b'\n'; 102];
     text[0] = b'R';
     put_columns(&mut text, 1, NUMBER_WIDTH, &row[..4]);
-    put_columns(&mut text, BITS_AT, BITS_WIDTH, &row[4..]);
+    put_values(&mut text, VALUES_AT, &row[4..]);
     text
 }
 
@@ -68,6 +72,33 @@ fn put_columns(out: &mut [u8], at: usize, width: usize, numbers: &[u64])
     while i < numbers.len() {
         put_number(out, place, width, numbers[i]);
         place += width;
+        i += 1;
+    }
+}
+
+// Writes doubles, given by their bits, side by side as decimals, from a position on.
+fn put_values(out: &mut [u8], at: usize, values: &[u64])
+    requires { ⌜ (at ≤ 17) × (length (now values) ≤ 4) × (at + 21 * length (now values) ≤ length (now out)) ⌝ }
+    ensures { λ _. ⌜ now (out .exit) ≡ putValues (now (out .entry)) at (now (values .entry)) ⌝ }
+{
+    let mut place = at;
+    let mut i = 0;
+    while i < values.len() {
+        let column = decimal_column(from_bits(values[i]));
+        put_bytes(out, place, &column);
+        place += VALUE_WIDTH;
+        i += 1;
+    }
+}
+
+// Writes the bytes of a column from a position on.
+fn put_bytes(out: &mut [u8], at: usize, column: &[u8; 21])
+    requires { ⌜ at + 21 ≤ length (now out) ⌝ }
+    ensures { λ _. ⌜ now (out .exit) ≡ sets (now (out .entry)) at (tab 21 (λ k. getD (now (column .entry)) k 0)) ⌝ }
+{
+    let mut i = 0;
+    while i < VALUE_WIDTH {
+        out[at + i] = column[i];
         i += 1;
     }
 }

@@ -6,6 +6,7 @@ mod floats;
 mod flows;
 mod grids;
 mod numbers;
+mod printed;
 mod states;
 mod steps;
 mod studies;
@@ -42,7 +43,7 @@ fn answer_study(job: u64, lines: &mut [u8; ROOM], answers: &mut [u8; ROOM], c: C
     }
 }
 
-// Jobs 8 to 15: parts of it, and kept studies. The reading ends at any other.
+// Jobs 8 to 16: parts of it, and kept studies. The reading ends at any other.
 fn answer_other(job: u64, lines: &mut [u8; ROOM], answers: &mut [u8; ROOM], c: Cursor) -> Cursor {
     match job {
         8 => floats::answer(lines, answers, c),
@@ -53,6 +54,7 @@ fn answer_other(job: u64, lines: &mut [u8; ROOM], answers: &mut [u8; ROOM], c: C
         13 => steps::answer(lines, answers, c),
         14 => circuits::answer(lines, answers, c),
         15 => calls::timed_fault_run(lines, answers, c),
+        16 => printed::answer(lines, answers, c),
         _ => numbers::ended_if(c, true),
     }
 }

@@ -38,7 +38,7 @@ fn after_one(left: u64) -> u64
 fn answer(r: Request) -> f64 {
     let work = r.work;
     match work {
-        1 | 2 | 3 | 4 | 5 | 6 | 7 => values::sum_values(r),
+        1 | 2 | 3 | 4 | 5 | 6 | 7 | 14 => values::sum_values(r),
         8 | 9 => breakers::sum_of_times(r),
         10 => flows::sum_losses(r),
         11 => states::sum_after_steps(r),

@@ -1,6 +1,7 @@
-// Functions of one number: the float functions, operating points and the current of a fault.
+// Functions of one number: the float functions, operating points, the current of a fault and what is printed.
 use crate::grids;
 use crate::requests::Request;
+use decimals::decimal_column;
 use fault_circuit::FaultCircuit;
 use fault_circuit::fault_circuit;
 use fault_current::fault_current_ka;
@@ -30,6 +31,7 @@ fn value(work: u64, circuit: FaultCircuit, x: f64, left: u64) -> f64 {
         4 => elementary::cos(x),
         5 => lcc_value(x),
         6 => vsc_value(x, left),
+        14 => last_byte(x),
         _ => fault_current_ka(circuit, x),
     }
 }
@@ -51,4 +53,10 @@ fn vsc_value(x: f64, left: u64) -> f64 {
     let answer = vsc_operating_point(grids::station(0, mmc, 1000.0), x, 320.0);
     let point = answer.point;
     point.i_dc_ka + point.firing_angle_deg + point.losses_mw
+}
+
+// Of what is printed for x.
+fn last_byte(x: f64) -> f64 {
+    let column = decimal_column(x);
+    column[20] as f64
 }

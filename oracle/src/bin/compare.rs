@@ -3,7 +3,7 @@
 
 use oracle::cut::cut_down;
 use oracle::draw::{self, Drawn, Random};
-use oracle::jobs::{answer, FLOATS, GRID_JOBS, OPERATIONS};
+use oracle::jobs::{answer, FLOATS, GRID_JOBS, OPERATIONS, PRINTED, PRINTED_BYTES};
 use oracle::names::names;
 use oracle::numbers::{alike, write_number, Numbers};
 use oracle::tally::Tally;
@@ -66,7 +66,8 @@ fn roots() -> Source {
 
 /// The numbers of jobs that can be drawn, with commas between them.
 fn listed(list: &str) -> Option<Vec<u64>> {
-    let known = |n: &u64| *n == FLOATS || GRID_JOBS.iter().any(|(job, _)| job == n);
+    let known =
+        |n: &u64| matches!(*n, FLOATS | PRINTED) || GRID_JOBS.iter().any(|(job, _)| job == n);
     list.split(',')
         .map(|word| word.parse().ok().filter(known))
         .collect()
@@ -188,6 +189,7 @@ fn show(job: &Drawn, expected: &[u64], line: usize, given: Option<u64>) {
             f64::from_bits(a),
             f64::from_bits(b)
         ),
+        [PRINTED, x] => println!("  printed value of {x} ({:e})", f64::from_bits(x)),
         _ => println!("  {}", named(job.numbers[0])),
     }
     for put in &job.put {
@@ -213,6 +215,10 @@ fn show_line(job: &[u64], expected: &[u64], line: usize, given: Option<u64>) {
     );
     for (who, n) in [("Rust", expected.get(line).copied()), ("program", given)] {
         match n {
+            Some(n) if job[0] == PRINTED => println!(
+                "    the {who}: {n} (\"{}\")",
+                n.to_be_bytes()[8 - PRINTED_BYTES..].escape_ascii()
+            ),
             Some(n) => println!("    the {who}: {n} ({:e})", f64::from_bits(n)),
             None => println!("    the {who}: no number"),
         }

@@ -1,4 +1,4 @@
-//! Prints the fixed jobs that the program `replay` is run on: float operations (job 8), then jobs on grids.
+//! Prints the fixed jobs that the program `replay` is run on: float operations (job 8), then jobs on grids, then printed values (job 16).
 
 use oracle::draw::Random;
 use oracle::numbers::write_number;

@@ -1,5 +1,5 @@
 //! Times the library's functions beside the Rust's, in one run and on the same arguments, and compares the results. The library's loops are the program
-//! of the crate `speed`, which is asked over pipes; the Rust's are here.
+//! of the crate `speed`, which is asked over pipes; the Rust's are here. Printed values are timed beside the C library's.
 
 mod library;
 mod requests;
@@ -65,7 +65,7 @@ fn time_all(program: &str) {
 }
 
 fn head(table: &Table) {
-    let columns = format!("{:>10} {:>9} {:>9}", "Rust", "library", "ratio");
+    let columns = format!("{:>10} {:>9} {:>9}", table.beside, "library", "ratio");
     println!(
         "{:<18} {columns} {columns}   {}, best and median",
         table.title, table.unit

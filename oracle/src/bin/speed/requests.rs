@@ -17,6 +17,7 @@ pub const FLOW: u64 = 10;
 pub const STEP: u64 = 11;
 pub const FAULT_RUN: u64 = 12;
 pub const SWITCHING_RUN: u64 = 13;
+pub const PRINTED: u64 = 14;
 
 /// A work, how often it is done, at which argument first and how much more in each turn after it; when the fault begins; then the grid: power of each
 /// station, resistance of each cable, and after how many ms the first breaker opens.
@@ -82,9 +83,10 @@ pub struct Row {
     pub rounds: usize,
 }
 
-/// Times of one kind, printed in a unit of so many ns.
+/// Times of one kind, printed in a unit of so many ns, and whose the other ones are.
 pub struct Table {
     pub title: String,
+    pub beside: &'static str,
     pub unit: &'static str,
     pub unit_ns: f64,
     pub rows: Vec<Row>,
@@ -103,6 +105,7 @@ fn row(name: impl Into<String>, request: Request) -> Row {
 fn in_ns(title: &str, rows: Vec<Row>) -> Table {
     Table {
         title: title.to_string(),
+        beside: "Rust",
         unit: "ns",
         unit_ns: 1.0,
         rows,
@@ -112,6 +115,7 @@ fn in_ns(title: &str, rows: Vec<Row>) -> Table {
 fn in_us(title: &str, rows: Vec<Row>) -> Table {
     Table {
         title: title.to_string(),
+        beside: "Rust",
         unit: "us",
         unit_ns: 1000.0,
         rows,
@@ -133,6 +137,10 @@ pub fn tables() -> Vec<Table> {
         in_us("flows", flows()),
         in_us("steps", steps()),
         in_ns("fault currents", currents()),
+        Table {
+            beside: "C library",
+            ..in_ns("printing", vec![row("printed value", PRINTED_VALUES)])
+        },
     ];
     for (steps, duration_ms, rounds) in LENGTHS {
         tables.push(in_us(&format!("{steps} steps"), runs(duration_ms, rounds)));
@@ -316,15 +324,27 @@ fn runs(duration_ms: f64, rounds: usize) -> Vec<Row> {
     rows
 }
 
+/// Of either sign, and none of them round.
+const PRINTED_VALUES: Request = Request {
+    work: PRINTED,
+    count: CALLS,
+    first: -1000.0,
+    step: 0.123457,
+    ..NOTHING
+};
+
 /// What the crate's stored input asks for: each request of the tables for a few turns, but for the longest runs; then both sides of a range's end, and
-/// a work that there is not.
+/// a work that there is not; and printed values, which were added later.
 pub fn stored() -> Vec<Request> {
     let rows = tables().into_iter().flat_map(|table| table.rows);
     let few = rows.filter(|row| row.rounds == ROUNDS).map(|row| Request {
         count: row.request.count.min(3),
         ..row.request
     });
-    few.chain([AT_END, NOTHING]).collect()
+    let (last, mut all): (Vec<Request>, Vec<Request>) = few.partition(|r| r.work == PRINTED);
+    all.extend([AT_END, NOTHING]);
+    all.extend(last);
+    all
 }
 
 /// Three turns, the last of which is refused.

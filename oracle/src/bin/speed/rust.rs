@@ -1,4 +1,4 @@
-//! The Rust's answers: the loops of the crate `speed` over the published functions, on the same grids.
+//! The Rust's answers: the loops of the crate `speed` over the published functions, on the same grids; and those over the C library's `snprintf`.
 
 use crate::requests::{self, Request};
 use oracle::dc_switching::{
@@ -8,6 +8,7 @@ use oracle::dc_switching::{
 use oracle::grids::Grid;
 use oracle::rules;
 use oracle::stand_in::StandIn;
+use std::ffi::{c_char, c_int};
 
 /// A request of no work that there is gets 0.
 #[inline(never)]
@@ -38,6 +39,7 @@ pub fn answer(r: &Request) -> f64 {
         }
         requests::FAULT_RUN => fault_runs(r),
         requests::SWITCHING_RUN => switching_runs(r),
+        requests::PRINTED => sum_values(last_printed, r),
         _ => 0.0,
     }
 }
@@ -56,6 +58,18 @@ fn sum_values(of: impl Fn(f64) -> f64, r: &Request) -> f64 {
         left -= 1;
     }
     sum
+}
+
+extern "C" {
+    fn snprintf(text: *mut c_char, size: usize, format: *const c_char, ...) -> c_int;
+}
+
+/// The last of the 21 bytes that the C library prints a double with. Of those that have room in a column it is the column's.
+fn last_printed(x: f64) -> f64 {
+    let mut text: [c_char; 22] = [0; 22];
+    // SAFETY: no more is written than there is room for, a zero at the end; the format has one double.
+    unsafe { snprintf(text.as_mut_ptr(), text.len(), c"%21.6f".as_ptr(), x) };
+    f64::from(text[20])
 }
 
 /// How many fault runs the rules accept, which the published Rust does not have.
@@ -207,5 +221,24 @@ fn fault(inception_time_ms: f64) -> DcFaultEvent {
         location_fraction: 0.5,
         fault_resistance: 10.0,
         inception_time_ms,
+    }
+}
+
+#[cfg(test)]
+mod tests {
+    use super::*;
+    use oracle::decimals::column;
+
+    #[test]
+    fn the_last_byte_of_a_column() {
+        let mut x = -1000.0;
+        for _ in 0..20_000 {
+            assert_eq!(last_printed(x), f64::from(column(x)[20]), "{x:e}");
+            x += 0.123457;
+        }
+        let last = 1e13f64.next_down();
+        for x in [0.0, -0.0, -4e-7, 1.0 / 128.0, 3.0 / 128.0, last] {
+            assert_eq!(last_printed(x), f64::from(column(x)[20]), "{x:e}");
+        }
     }
 }

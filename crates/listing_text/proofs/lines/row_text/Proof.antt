@@ -15,17 +15,19 @@ slice-aggregate-put-columns-2 c =
 put-columns-requires : tie.Need-put-columns-requires
 put-columns-requires c κs = (omega arith, (omega arith, rw length-take (omega arith)))
 
-put-columns-requires-2 : tie.Need-put-columns-requires-2
-put-columns-requires-2 c κs = (omega arith, (omega arith, rw length-take (omega arith)))
+put-values-requires : tie.Need-put-values-requires
+put-values-requires c κs = (omega arith, rw length-take (omega arith), rw length-take (omega arith))
 
 returns : tie.Need-returns
 returns c =
-    let a = c .before .before .before .before .before .before .before .before .before .args in
-    row-written (a .t1) (c .before .before .before .before .before .before .put-columns .last .0) (c .before .put-columns2 .last .0) (search needs) (c .before .before .before .before .before .before .put-columns .ensures) (c .before .put-columns2 .ensures)
+    let v = c .before in
+    let p = v .before .before .before .before .before in
+    let a = p .before .before .before .args in
+    row-written (a .t1) (p .put-columns .last .0) (v .put-values .last .0) (search needs) (p .put-columns .ensures) (v .put-values .ensures)
 
 pub row-text-spec : {M : Type 1} → statement M
 row-text-spec =
     tie.close
     (tie.spec
     (λ c. search needs) (λ c. search needs) (λ c. search needs) slice-aggregate-put-columns-2 put-columns-requires (λ c. search needs)
-    (λ c. search needs) (λ c. search needs) (λ c. search needs) put-columns-requires-2 returns)
+    (λ c. search needs) (λ c. search needs) (λ c. search needs) put-values-requires returns)
