@@ -6,6 +6,7 @@ use mathlib.Core.List.{List, _++_}
 use Prim.Native.Nat.{ℕ, zero, suc, _+_, _-_, _*_, _/_, _^_, _≤_, _<_}
 use native.Mathlib.Nat.{mul-right-comm}
 use native.Mathlib.Omega.{arith}
+use lib.IntN.{ℤ}
 use lib.ListN.{length, getD, replicate}
 use lib.Ieee.{Float, nan, inf, fin, up, down}
 use lib.Ieee.Exact.{HasValue}
@@ -41,6 +42,10 @@ starred (inf s) = (λ e. tt, λ h. refl)
 starred (fin s m e) = is-starred (sixPlaces s (inMillionths m e))
 
 -- ---- how many millionths that are
+rounded : (m : ℕ) (e : ℤ) → NearestWhole (m * up e * 10 ^ 6) (down e) (inMillionths m e)
+unfolding inMillionths
+rounded m e = closest-nearest (m * up e * 10 ^ 6) (down e) (down-pos e)
+
 long-is : (s : Bool) (q : ℕ) → 20 < length (sixPlaces s q) ↔ (10 ^ 19 ≤ q) ⊎ ((s ≡ true) × (10 ^ 18 ≤ q))
 long-is s q = (there s, back s)
   where
@@ -87,4 +92,4 @@ spelled (fin t m e) s n d D v h =
     )
 
 pub decimal-claims : DecimalClaims
-decimal-claims = record { columns = length-column; starred = starred; long = long-is; spelled = spelled; only = only }
+decimal-claims = record { columns = length-column; starred = starred; rounded = rounded; long = long-is; spelled = spelled; only = only }

@@ -6,8 +6,9 @@ use mathlib.Core.Logic.{_⊎_, _↔_}
 use mathlib.Core.Bool.{Bool, true, _&&_, cond}
 use mathlib.Core.List.{List, [], _∷_, _++_}
 use lib.Dec.{ltb}
+use lib.IntN.{ℤ}
 use lib.ListN.{length, getD, replicate}
-use lib.Ieee.{Float, nan, inf, fin}
+use lib.Ieee.{Float, nan, inf, fin, up, down}
 use lib.Ieee.Exact.{HasValue}
 use Rattle.lists.specs.Scans.{every}
 use Rattle.field_columns.specs.Fields.{isDigit, someDigits, number}
@@ -46,6 +47,8 @@ pub record DecimalClaims : Type 0 where
   pub columns : (x : Float) → length (decimalColumn x) ≡ 21
   -- stars exactly in those cases
   pub starred : (x : Float) → decimalColumn x ≡ stars ↔ Starred x
+  -- the number of millionths that is asked for its length is the nearest to the double, m * up e / down e in size
+  pub rounded : (m : ℕ) (e : ℤ) → NearestWhole (m * up e * 10 ^ 6) (down e) (inMillionths m e)
   -- 14 digits before the point, or 13 and a minus sign
   pub long : (negative : Bool) (q : ℕ) → 20 < length (sixPlaces negative q) ↔ (10 ^ 19 ≤ q) ⊎ ((negative ≡ true) × (10 ^ 18 ≤ q))
   -- else the nearest number of millionths of the double, which is n / d with this sign
