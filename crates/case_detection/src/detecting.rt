@@ -15,7 +15,7 @@ use state_derivatives::{StageSetting, StageState};
 use transient::moved_numbers;
 
 // What a step of a fault that is not cleared moves the numbers by.
-#[derive(Drop)]
+#[derive(Clone, Copy)]
 struct StepSetting {
     stage: StageSetting,
     dt_s: f64,

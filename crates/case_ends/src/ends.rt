@@ -13,7 +13,7 @@ use fault_window::Window;
 use grid::DcSwitchingSimulator;
 
 // The outcomes of the three types of fault at a place.
-#[derive(Drop)]
+#[derive(Clone, Copy)]
 pub struct SiteEnds {
     pub ground: CaseOutcome,
     pub pole: CaseOutcome,

@@ -1,4 +1,6 @@
 // Why a case is listed, and its row.
+#![tactic(auto)]
+
 mod reasons;
 mod row;
 

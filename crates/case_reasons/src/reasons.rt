@@ -8,7 +8,7 @@ use grid::{DcBreaker, DcCable, DcSwitchingSimulator, MOST_BREAKERS, present};
 const MOST_CABLES: u64 = 64;
 
 // What the reasons and the row are read from, once all steps of a case are made.
-#[derive(Drop)]
+#[derive(Clone, Copy)]
 pub struct CaseOutcome {
     pub cleared: bool,
     // Of the clearing step, in kA.
@@ -20,7 +20,7 @@ pub struct CaseOutcome {
 }
 
 // Which of the two limits of a breaker is meant.
-#[derive(Drop)]
+#[derive(Clone, Copy)]
 pub enum Limit {
     BreakingCurrent,
     Energy,

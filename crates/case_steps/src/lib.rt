@@ -1,4 +1,6 @@
 // The steps of one case of a sweep, and what is kept of it between them.
+#![tactic(auto)]
+
 mod open_case;
 mod steps;
 

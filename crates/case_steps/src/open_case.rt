@@ -8,7 +8,7 @@ use grid::DcSwitchingSimulator;
 use runs::blank_state;
 
 // A case after the last of its steps that is made.
-#[derive(Drop)]
+#[derive(Clone, Copy)]
 pub struct OpenCase {
     // 000's variables. Their state is that of the last step.
     pub variables: FaultVariables,

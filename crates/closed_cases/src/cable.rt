@@ -14,7 +14,7 @@ const FAULT_TYPES: u64 = 3;
 const MOST_TENTHS: u64 = 10;
 
 // The outcomes of a cable's cases, held within a call.
-#[derive(Drop)]
+#[derive(Clone, Copy)]
 pub struct CableEnds {
     // Whether there are any.
     pub held: bool,

@@ -1,4 +1,6 @@
 // The outcomes of the cases that a call of a sweep closes.
+#![tactic(auto)]
+
 mod cable;
 mod closed;
 

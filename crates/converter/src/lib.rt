@@ -1,4 +1,6 @@
 // The points of converters, line-commutated (LCC) and voltage-source (VSC), of any station, accepted or not.
+#![tactic(auto)]
+
 mod floor;
 mod lcc;
 mod point;

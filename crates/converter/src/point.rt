@@ -3,7 +3,7 @@ ghost use Rattle.std.specs.Prelude.{◌≡◌};
 ghost use Rattle.converter.specs.Point.{blank_point};
 
 // 000's operating point.
-#[derive(Drop)]
+#[derive(Clone, Copy)]
 pub struct ConverterOperatingPoint {
     pub station_id: u64,
     pub p_dc_mw: f64,

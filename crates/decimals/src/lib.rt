@@ -1,4 +1,6 @@
 // A double printed with six places in 21 columns.
+#![tactic(auto)]
+
 mod column;
 mod millionths;
 

@@ -15,7 +15,7 @@ const LAST_BELOW_HALF: u64 = 4722366482869645;
 const TOO_MANY: u64 = 10_000_000_000_000_000_000;
 
 // 15,625 times a significand, which may have 67 binary digits: its eighths and what they leave.
-#[derive(Drop)]
+#[derive(Clone, Copy)]
 struct Parts {
     eighths: u64,
     rest: u64,

@@ -12,7 +12,7 @@ use run_start::rated_voltages;
 use state_derivatives::DcTransientState;
 
 // Nothing is detected where the grid is refused.
-#[derive(Drop)]
+#[derive(Clone, Copy)]
 pub struct DetectionAnswer {
     pub verdict: Verdict,
     pub detected: bool,

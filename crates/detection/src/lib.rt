@@ -1,4 +1,6 @@
 // Whether a fault shows between two states of a grid.
+#![tactic(auto)]
+
 mod detect;
 
 pub use detect::{DetectionAnswer, detect_fault, detects, shows_fault};

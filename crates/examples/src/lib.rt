@@ -1,1 +1,2 @@
 // Document 01's checked examples, in one table; no code.
+#![tactic(auto)]

@@ -11,7 +11,7 @@ const FAULT_TYPES: u64 = 3;
 const MOST_TENTHS: u64 = 10;
 
 // Where and of which type the fault of a case is.
-#[derive(Drop)]
+#[derive(Clone, Copy)]
 pub struct CasePlace {
     // The cable's position.
     pub cable: u64,

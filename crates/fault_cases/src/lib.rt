@@ -1,4 +1,6 @@
 // The cases of a sweep: which fault each of them has.
+#![tactic(auto)]
+
 mod cases;
 
 pub use cases::{CasePlace, case_count, case_place, fault_at, tenth_count};

@@ -12,7 +12,7 @@ use square_root::sqrt;
 const LEAST: f64 = 0.000000001;
 
 // The current in amperes, t seconds after inception.
-#[derive(Drop)]
+#[derive(Clone, Copy)]
 pub enum Response {
     // gain * E(-alpha t) * S(omega_d t)
     Underdamped { gain: f64, alpha: f64, omega_d: f64 },
@@ -25,7 +25,7 @@ pub enum Response {
 }
 
 // What a fault run needs of the grid and the fault to find the current at any time.
-#[derive(Drop)]
+#[derive(Clone, Copy)]
 pub struct FaultCircuit {
     pub response: Response,
     pub resistance_factor: f64,

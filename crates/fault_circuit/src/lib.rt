@@ -1,4 +1,6 @@
 // The RLC circuit that a fault closes.
+#![tactic(auto)]
+
 mod circuit;
 mod parameters;
 

@@ -10,7 +10,7 @@ use grid::{
     cut_end, present,
 };
 
-#[derive(Drop)]
+#[derive(Clone, Copy)]
 pub struct RlcParameters {
     pub l_total_mh: f64,
     pub c_total_uf: f64,

@@ -1,4 +1,6 @@
 // The current of a fault at sixteen times at once.
+#![tactic(auto)]
+
 mod currents;
 mod sites;
 

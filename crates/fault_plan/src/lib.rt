@@ -1,4 +1,6 @@
 // What a fault run works out once, the initial values of its variables, and its steps that change no array.
+#![tactic(auto)]
+
 mod plan;
 mod quiet;
 mod variables;

@@ -13,7 +13,7 @@ use state_derivatives::DcTransientState;
 use timing::{duration_ms, time_step_ms};
 
 // What stays the same in every step of a fault run, less the tables that the grid alone decides.
-#[derive(Drop)]
+#[derive(Clone, Copy)]
 pub struct FaultConstants {
     pub n_stations: usize,
     pub drain: Drain,
@@ -24,7 +24,7 @@ pub struct FaultConstants {
 }
 
 // All that stays the same, worked out once. The network and the rated voltages are those of every fault on the grid.
-#[derive(Drop)]
+#[derive(Clone, Copy)]
 pub struct FaultPlan {
     pub constants: FaultConstants,
     pub network: Network,

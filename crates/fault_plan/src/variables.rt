@@ -4,7 +4,7 @@ ghost use Rattle.fault_plan.specs.Fault.{fresh_variables};
 
 use state_derivatives::DcTransientState;
 
-#[derive(Drop)]
+#[derive(Clone, Copy)]
 pub struct FaultVariables {
     pub state: DcTransientState,
     pub peak_fault_ka: f64,

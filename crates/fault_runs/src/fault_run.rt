@@ -13,7 +13,7 @@ use runs::DcTransientResult;
 use timing::{duration_ms, is_recorded, record_length, total_steps};
 
 // A kept run: the grid, the event, the steps made and 000's variables after the last of them.
-#[derive(Drop)]
+#[derive(Clone, Copy)]
 pub struct FaultRun {
     pub grid: DcSwitchingSimulator,
     pub fault: DcFaultEvent,
@@ -21,7 +21,7 @@ pub struct FaultRun {
     pub variables: FaultVariables,
 }
 
-#[derive(Drop)]
+#[derive(Clone, Copy)]
 pub struct AdvancedFaultRun {
     pub stop: Stop,
     pub steps: u64,

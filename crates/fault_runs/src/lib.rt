@@ -1,4 +1,6 @@
 // Fault runs: one fault, run in portions on lent memory.
+#![tactic(auto)]
+
 mod fault_run;
 
 pub use fault_plan::FaultVariables;

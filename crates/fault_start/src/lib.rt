@@ -1,4 +1,6 @@
 // The start of a fault run: its refusals, and the run that is kept.
+#![tactic(auto)]
+
 mod start;
 
 pub use start::{StartedFaultRun, simulate_fault};

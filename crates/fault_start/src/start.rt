@@ -9,7 +9,7 @@ use grid::{DcFaultEvent, DcFaultType, DcSwitchingSimulator};
 use rules::{Verdict, check_fault};
 use runs::{blank_grid, blank_state};
 
-#[derive(Drop)]
+#[derive(Clone, Copy)]
 pub struct StartedFaultRun {
     pub verdict: Verdict,
     pub run: FaultRun,

@@ -16,7 +16,7 @@ use float64::max;
 use run_start::step_time_ms;
 
 // Of the steps folded so far.
-#[derive(Drop)]
+#[derive(Clone, Copy)]
 pub struct Sums {
     // Their greatest current. A NaN is passed over.
     pub peak_ka: f64,
@@ -27,7 +27,7 @@ pub struct Sums {
 }
 
 // Of the three types of fault at one place: from pole to ground, from pole to pole, inside the converter.
-#[derive(Drop)]
+#[derive(Clone, Copy)]
 pub struct SiteSums {
     pub ground: Sums,
     pub pole: Sums,

@@ -5,7 +5,7 @@ use portions::Stop;
 use power_flow::DcGridSolution;
 
 // What is kept between advances: nothing of a case that is closed, and no row.
-#[derive(Drop)]
+#[derive(Clone, Copy)]
 pub struct Sweep {
     pub grid: DcSwitchingSimulator,
     pub order: SweepOrder,
@@ -18,7 +18,7 @@ pub struct Sweep {
     pub open_case: OpenCase,
 }
 
-#[derive(Drop)]
+#[derive(Clone, Copy)]
 pub struct AdvancedSweep {
     pub stop: Stop,
     // Made by this call.

@@ -5,7 +5,7 @@ ghost use Rattle.fault_window.specs.Window.{until, active_in, clears_in, window_
 use run_start::step_time_ms;
 
 // Steps are numbered from 0.
-#[derive(Drop)]
+#[derive(Clone, Copy)]
 pub struct Window {
     // The first step in which the fault lasts.
     pub from: u64,

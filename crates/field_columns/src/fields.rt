@@ -5,27 +5,27 @@ ghost use Rattle.field_columns.specs.Fields.{field_of};
 use crate::scan::{FIELD_WIDTH, scanned};
 
 // The number digits / 10^places.
-#[derive(Drop)]
+#[derive(Clone, Copy)]
 pub struct Decimal {
     pub digits: u64,
     pub places: u64,
 }
 
-#[derive(Drop)]
+#[derive(Clone, Copy)]
 pub enum Field {
     Number(Decimal),
     Wrong,
 }
 
 // What field_values::whole_at answers.
-#[derive(Drop)]
+#[derive(Clone, Copy)]
 pub enum WholeField {
     Whole(u64),
     Wrong,
 }
 
 // What field_values::real_at answers.
-#[derive(Drop)]
+#[derive(Clone, Copy)]
 pub enum RealField {
     Real(f64),
     Wrong,

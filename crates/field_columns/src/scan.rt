@@ -12,7 +12,7 @@ pub const FIELD_WIDTH: usize = 12;
 const MOST_PLACES: u64 = 6;
 
 // How far a field is read: in its spaces, in its digits so far, in the digits after its point and how many of them, or not a field.
-#[derive(Drop)]
+#[derive(Clone, Copy)]
 pub enum Scan {
     Spaces,
     Digits(u64),

@@ -1,4 +1,6 @@
 // The voltages of a grid in the steady state, by passes over the stations' power balance.
+#![tactic(auto)]
+
 mod balance;
 mod voltages;
 

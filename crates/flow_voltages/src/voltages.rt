@@ -23,7 +23,7 @@ const MOST_PASSES: u64 = 50;
 // The mismatch, in MW, below which the passes stop.
 const TOLERANCE: f64 = 0.000001;
 
-#[derive(Drop)]
+#[derive(Clone, Copy)]
 pub struct Voltages {
     pub v_dc_kv: [f64; MOST_STATIONS],
     pub converged: bool,
@@ -31,13 +31,13 @@ pub struct Voltages {
 }
 
 // Voltages, and the stations' currents at them.
-#[derive(Drop)]
+#[derive(Clone, Copy)]
 pub struct Found {
     pub voltages: Voltages,
     pub i_dc_ka: [f64; MOST_STATIONS],
 }
 
-#[derive(Drop)]
+#[derive(Clone, Copy)]
 struct Outcome {
     converged: bool,
     iterations: u64,

@@ -1,4 +1,6 @@
 // A grid, an event and an order by value, with the names of document 000.
+#![tactic(auto)]
+
 mod cables;
 mod parts;
 mod simulator;

@@ -4,7 +4,7 @@ ghost use Rattle.std.specs.Prelude.{◌≡◌};
 ghost use Rattle.grid.specs.Parts.{submodules_of};
 
 // How a station converts.
-#[derive(Drop)]
+#[derive(Clone, Copy)]
 pub enum ConverterTopology {
     // line-commutated, with thyristors
     Lcc,
@@ -17,7 +17,7 @@ pub enum ConverterTopology {
 }
 
 // How a breaker opens, each kind with its own times.
-#[derive(Drop)]
+#[derive(Clone, Copy)]
 pub enum DcBreakerType {
     Mechanical {
         // ms
@@ -37,7 +37,7 @@ pub enum DcBreakerType {
     },
 }
 
-#[derive(Drop)]
+#[derive(Clone, Copy)]
 pub enum DcFaultType {
     PoleToGround,
     PoleToPole,
@@ -45,7 +45,7 @@ pub enum DcFaultType {
     ConverterInternal,
 }
 
-#[derive(Drop)]
+#[derive(Clone, Copy)]
 pub struct ConverterStation {
     // compared with the ends of cables for the station's capacitance, and reported in operating points; all else goes by position
     pub id: u64,
@@ -68,7 +68,7 @@ pub struct ConverterStation {
     pub sm_capacitance_uf: f64,
 }
 
-#[derive(Drop)]
+#[derive(Clone, Copy)]
 pub struct DcCable {
     // only its range is checked: a cable is named by its position
     pub id: u64,
@@ -86,7 +86,7 @@ pub struct DcCable {
     pub length_km: f64,
 }
 
-#[derive(Drop)]
+#[derive(Clone, Copy)]
 pub struct DcBreaker {
     // only its range is checked: a breaker is named by its position
     pub id: u64,
@@ -99,7 +99,7 @@ pub struct DcBreaker {
     pub energy_absorption_mj: f64,
 }
 
-#[derive(Drop)]
+#[derive(Clone, Copy)]
 pub struct DcFaultEvent {
     pub fault_type: DcFaultType,
     // position of the faulted cable, whatever the name says: no cable's id
@@ -113,7 +113,7 @@ pub struct DcFaultEvent {
 }
 
 // The faults of a sweep: their resistance and inception, and from which tenth of a cable to which they are tried.
-#[derive(Drop)]
+#[derive(Clone, Copy)]
 pub struct SweepOrder {
     // Ω
     pub fault_resistance: f64,

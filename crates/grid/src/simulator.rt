@@ -18,7 +18,7 @@ pub const LEAST_TIME_STEP_US: f64 = 0.1;
 pub const LEAST_DURATION_MS: f64 = 0.001;
 
 // 000's simulator. What stands in an array at or past its count is never read.
-#[derive(Drop)]
+#[derive(Clone, Copy)]
 pub struct DcSwitchingSimulator {
     // a station's number is its position here, and so for cables and breakers
     pub stations: [ConverterStation; MOST_STATIONS],
@@ -35,7 +35,7 @@ pub struct DcSwitchingSimulator {
 }
 
 // The grid with a part more, or the same grid where there is no room.
-#[derive(Drop)]
+#[derive(Clone, Copy)]
 pub struct Added {
     pub grid: DcSwitchingSimulator,
     // whether there was room for the part

@@ -1,4 +1,6 @@
 // E and S of sixteen numbers at a time: lane j of the answer is E (S) of lane j, bit for bit what `exp` (`sin`) returns for it.
+#![tactic(auto)]
+
 mod exponential;
 mod squares;
 mod wave;

@@ -1,4 +1,6 @@
 // What the model of a grid over time needs of the grid and of a fault, worked out once: ends, R, L, C, and what a fault drains.
+#![tactic(auto)]
+
 mod capacitance;
 mod network;
 

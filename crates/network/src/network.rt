@@ -13,7 +13,7 @@ use grid::{
 };
 
 // A grid as the stages see it, in arrays that can be lent.
-#[derive(Drop)]
+#[derive(Clone, Copy)]
 pub struct Network {
     pub n_stations: usize,
     pub n_cables: usize,
@@ -25,7 +25,7 @@ pub struct Network {
 }
 
 // What a fault drains from the stations at both ends of its cable.
-#[derive(Drop)]
+#[derive(Clone, Copy)]
 pub struct Drain {
     pub from: usize,
     pub to: usize,

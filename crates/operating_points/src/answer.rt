@@ -8,7 +8,7 @@ use grid::ConverterStation;
 use rules::{Verdict, check_operating_point, number};
 
 // The point is all zeros where the station is refused.
-#[derive(Drop)]
+#[derive(Clone, Copy)]
 pub struct PointAnswer {
     pub verdict: Verdict,
     pub point: ConverterOperatingPoint,

@@ -1,8 +1,10 @@
 // Why an advance of a run or a sweep stops. The stopping rule, the tally and the claim about whole lists of calls are in specs/.
+#![tactic(auto)]
+
 ghost use Rattle.std.specs.Prelude.{◌≡◌};
 ghost use Rattle.portions.specs.Stopping.{number_of, reason_of};
 
-#[derive(Drop)]
+#[derive(Clone, Copy)]
 pub enum Stop {
     Finished,
     Spent,

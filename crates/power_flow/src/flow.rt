@@ -11,7 +11,7 @@ use grid::{DcSwitchingSimulator, MOST_CABLES, MOST_STATIONS, present};
 use rules::{Verdict, check_flow, number};
 
 // 000's solution. What stands past the counts is zeros.
-#[derive(Drop)]
+#[derive(Clone, Copy)]
 pub struct DcGridSolution {
     pub operating_points: [ConverterOperatingPoint; MOST_STATIONS],
     pub cable_losses_mw: [f64; MOST_CABLES],
@@ -21,7 +21,7 @@ pub struct DcGridSolution {
 }
 
 // The solution is all zeros where the grid is refused.
-#[derive(Drop)]
+#[derive(Clone, Copy)]
 pub struct FlowAnswer {
     pub verdict: Verdict,
     pub solution: DcGridSolution,

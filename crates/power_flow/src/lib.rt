@@ -1,4 +1,6 @@
 // The steady state of a grid: its voltages, then operating points and losses at them.
+#![tactic(auto)]
+
 mod flow;
 mod solution;
 

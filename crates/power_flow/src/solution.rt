@@ -15,7 +15,7 @@ use grid::{
 };
 
 // The points of all stations, and a total with their losses.
-#[derive(Drop)]
+#[derive(Clone, Copy)]
 pub struct Points {
     pub points: [ConverterOperatingPoint; MOST_STATIONS],
     pub total_losses_mw: f64,

@@ -1,9 +1,11 @@
 // The accepted values: one table of lows and highs, ends included, and the one check that reads it.
+#![tactic(auto)]
+
 ghost use Rattle.std.specs.Prelude.{◌≡◌};
 ghost use Rattle.ranges.specs.Ranges.{between, whole_between};
 
 // The low end and the high end.
-#[derive(Drop)]
+#[derive(Clone, Copy)]
 pub struct Range(f64, f64);
 
 // A row for each field, in the order of 01's list.

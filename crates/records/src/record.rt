@@ -9,7 +9,7 @@ use grid::{DcSwitchingSimulator, MOST_BREAKERS, MOST_CABLES, MOST_STATIONS, pres
 use state_derivatives::DcTransientState;
 
 // How many of each a record has.
-#[derive(Drop)]
+#[derive(Clone, Copy)]
 pub struct RecordCounts {
     pub stations: usize,
     pub cables: usize,

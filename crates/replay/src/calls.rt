@@ -17,7 +17,7 @@ const SWITCHING: usize = 2;
 const ORDER: usize = 4;
 
 // A study after a call, and the cursor past it.
-#[derive(Drop)]
+#[derive(Clone, Copy)]
 struct Called {
     study: Study,
     c: Cursor,

@@ -31,14 +31,14 @@ const HYBRID_BREAKER: u64 = 2;
 const CONVERTER_INTERNAL: u64 = 2;
 
 // A grid with the parts read so far, and the cursor past them. Once the reading has ended the grid means nothing.
-#[derive(Drop)]
+#[derive(Clone, Copy)]
 struct GridRead {
     grid: DcSwitchingSimulator,
     c: Cursor,
 }
 
 // A grid and the numbers behind it, as a row has them.
-#[derive(Drop)]
+#[derive(Clone, Copy)]
 pub struct Given {
     pub grid: DcSwitchingSimulator,
     pub numbers: [u64; LONGEST],
@@ -46,7 +46,7 @@ pub struct Given {
     pub c: Cursor,
 }
 
-#[derive(Drop)]
+#[derive(Clone, Copy)]
 enum Part {
     Station,
     Cable,

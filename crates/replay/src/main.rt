@@ -1,5 +1,7 @@
 // Runs the studies on numbers, so that the Rust can be given the same ones and the answers compared line by line. Jobs are
 // read from standard input until it ends; their answers go to standard output.
+#![tactic(auto)]
+
 mod calls;
 mod circuits;
 mod floats;

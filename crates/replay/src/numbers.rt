@@ -17,7 +17,7 @@ const SPACE: u8 = 32;
 const LINE_FEED: u8 = 10;
 
 // Where the next number stands among the lines read, where the next answer goes, and whether the reading has ended.
-#[derive(Drop)]
+#[derive(Clone, Copy)]
 pub struct Cursor {
     at: usize,
     filled: usize,
@@ -25,7 +25,7 @@ pub struct Cursor {
 }
 
 // A number and the cursor past it.
-#[derive(Drop)]
+#[derive(Clone, Copy)]
 struct Taken {
     number: u64,
     c: Cursor,
@@ -35,7 +35,7 @@ struct Taken {
 pub const LONGEST: usize = 96;
 
 // Some numbers, in the first places, the doubles of which they are the bits, and the cursor past them. Zeros follow them.
-#[derive(Drop)]
+#[derive(Clone, Copy)]
 pub struct Row {
     pub numbers: [u64; LONGEST],
     pub doubles: [f64; LONGEST],
@@ -43,7 +43,7 @@ pub struct Row {
 }
 
 // What the columns of a line say so far: the number, whether a digit has come, and whether a column has what it may not have.
-#[derive(Drop)]
+#[derive(Clone, Copy)]
 struct Columns {
     number: u64,
     begun: bool,

@@ -7,7 +7,7 @@ use grid::DcSwitchingSimulator;
 use state_derivatives::DcTransientState;
 
 // A state, and the cursor past it. Once the reading has ended the state means nothing.
-#[derive(Drop)]
+#[derive(Clone, Copy)]
 pub struct StateRead {
     pub state: DcTransientState,
     pub c: Cursor,

@@ -14,7 +14,7 @@ pub const MOST: usize = 4096;
 // How many numbers a row of a sweep has.
 const ROW: usize = 8;
 
-#[derive(Drop)]
+#[derive(Clone, Copy)]
 pub enum Kind {
     FaultRun,
     SwitchingRun,
@@ -22,7 +22,7 @@ pub enum Kind {
 }
 
 // A study of a kind. An enum cannot hold an array, so that there is one of each; the other two mean nothing.
-#[derive(Drop)]
+#[derive(Clone, Copy)]
 pub struct Study {
     pub kind: Kind,
     pub fault_run: FaultRun,
@@ -31,7 +31,7 @@ pub struct Study {
 }
 
 // A study and its refusal by number, 0 where it is accepted.
-#[derive(Drop)]
+#[derive(Clone, Copy)]
 pub struct Started {
     pub refusal: u64,
     pub study: Study,
@@ -39,7 +39,7 @@ pub struct Started {
 
 // A study after a call, how the call stopped, the steps that it made and the records or rows that it wrote, and how many doubles and
 // numbers of the memory these have.
-#[derive(Drop)]
+#[derive(Clone, Copy)]
 pub struct Portion {
     pub study: Study,
     pub stop: u64,

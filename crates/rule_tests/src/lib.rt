@@ -1,4 +1,6 @@
 // When the rules 3 to 8 of document 01 are broken by a grid.
+#![tactic(auto)]
+
 mod tests;
 
 pub use tests::{

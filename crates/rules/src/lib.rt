@@ -1,4 +1,6 @@
 // What document 01 refuses: the rules 1 to 9, and the order in which each study checks them.
+#![tactic(auto)]
+
 mod studies;
 
 pub use studies::{

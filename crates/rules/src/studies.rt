@@ -8,7 +8,7 @@ use rule_tests::{
 };
 
 // What a study answers first.
-#[derive(Drop)]
+#[derive(Clone, Copy)]
 pub enum Verdict {
     Accepted,
     NoStation,

@@ -1,5 +1,5 @@
 // 000's DcTransientResult, less the states: these are handed out by an advance.
-#[derive(Drop)]
+#[derive(Clone, Copy)]
 pub struct DcTransientResult {
     pub peak_fault_current_ka: f64,
     pub fault_clearing_time_ms: f64,

@@ -1,4 +1,6 @@
 // A sheet, whole or in pieces as they arrive: its grid and its order, or the number and the line of what is wrong with it.
+#![tactic(auto)]
+
 mod read;
 
 pub use read::read_sheet;

@@ -12,7 +12,7 @@ pub const LINE_LENGTH: usize = 134;
 const LINE_FEED: u8 = 10;
 
 // The sheet of the lines that have ended, and the bytes of the line that has not: the first `length` of `line`.
-#[derive(Drop)]
+#[derive(Clone, Copy)]
 pub struct Reading {
     pub sheet: Sheet,
     pub line: [u8; LINE_LENGTH],

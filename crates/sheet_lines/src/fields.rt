@@ -14,7 +14,7 @@ const FIELD_COLUMNS: usize = 12;
 const LINE_FEED: u8 = 10;
 
 // The first three fields of an S, C or B line.
-#[derive(Drop)]
+#[derive(Clone, Copy)]
 pub struct Wholes {
     pub first: u64,
     pub second: u64,
@@ -22,7 +22,7 @@ pub struct Wholes {
 }
 
 // Four fields that may have a point.
-#[derive(Drop)]
+#[derive(Clone, Copy)]
 pub struct Reals {
     pub first: f64,
     pub second: f64,
@@ -31,7 +31,7 @@ pub struct Reals {
 }
 
 // Which fields of a line are whole numbers and which may have a point: from which field on, and how many.
-#[derive(Drop)]
+#[derive(Clone, Copy)]
 pub struct Form {
     pub first_whole: usize,
     pub wholes: usize,

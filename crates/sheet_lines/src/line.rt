@@ -7,7 +7,7 @@ use grid::{ConverterStation, ConverterTopology, DcBreaker, DcBreakerType, DcCabl
 
 // What a line says; one of wrong form says nothing. A station is known if its topology is one of the four and its submodules are 0
 // or an MMC's, a breaker if its kind is one of the three and it is not a mechanical one with a second number: rules 6 and 8 refuse others.
-#[derive(Drop)]
+#[derive(Clone, Copy)]
 pub enum SheetLine {
     Times {
         dt_us: f64,

@@ -9,7 +9,7 @@ use std::num::{nearest_u64_to_f64, wrapping_add_u64};
 const MOST: u64 = 64;
 
 // What a grid is to have: power of each station, resistance of each cable, and after how many ms the first breaker opens.
-#[derive(Drop)]
+#[derive(Clone, Copy)]
 pub struct Order {
     pub dt_us: f64,
     pub duration_ms: f64,

@@ -1,5 +1,7 @@
 // The library's functions in loops, for a program in Rust to time and to compare. Requests are read from standard input until it ends; the
 // answer to each, a double by its bits, is written before the next is read.
+#![tactic(auto)]
+
 ghost use Rattle.std.specs.Prelude.{◌≤◌};
 
 mod breakers;

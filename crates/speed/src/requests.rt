@@ -16,7 +16,7 @@ const ROOM: usize = LINES * LINE;
 
 // Which work is done, how often, at which argument first and how much more in each turn after it, and on which grid and fault. Where the input has
 // ended, the rest means nothing.
-#[derive(Drop)]
+#[derive(Clone, Copy)]
 pub struct Request {
     pub ended: bool,
     pub work: u64,

@@ -1,5 +1,7 @@
 // The square root of IEEE 754 as document 01 has it, and SQRT_2. `sqrt` is defined at every double, NaN and the infinities
 // among them, and equals its definition in specs/.
+#![tactic(auto)]
+
 mod constants;
 mod root;
 

@@ -40,7 +40,7 @@ fn root_of_positive(x: f64) -> f64
 }
 
 // 53 binary digits, and a power of two.
-#[derive(Drop)]
+#[derive(Clone, Copy)]
 struct Normal {
     digits: u64,
     scale: u64,
@@ -85,7 +85,7 @@ fn nearest_root(m: u64) -> u64
 }
 
 // A root cut to a whole number, and what is left of the radicand.
-#[derive(Drop)]
+#[derive(Clone, Copy)]
 struct Floor {
     root: u64,
     rest: u64,

@@ -12,7 +12,7 @@ use grid::{MOST_CABLES, MOST_STATIONS, cut_end, present};
 use network::Drain;
 
 // A cable in a stage.
-#[derive(Drop)]
+#[derive(Clone, Copy)]
 struct CableStage {
     v_from_kv: f64,
     v_to_kv: f64,
@@ -22,14 +22,14 @@ struct CableStage {
 }
 
 // A station in a stage.
-#[derive(Drop)]
+#[derive(Clone, Copy)]
 struct StationStage {
     net_current_ka: f64,
     capacitance_f: f64,
 }
 
 // What is the same in every stage of a step, less the network's tables: n stations, m cables, and what a fault drains.
-#[derive(Drop)]
+#[derive(Clone, Copy)]
 pub struct StageSetting {
     pub n: usize,
     pub m: usize,

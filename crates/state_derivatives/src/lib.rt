@@ -1,4 +1,6 @@
 // The state of a grid at a time, and how fast its voltages and currents change.
+#![tactic(auto)]
+
 mod derivatives;
 mod state;
 

@@ -1,7 +1,7 @@
 // 000's state of a grid at a time, and the numbers of it that a stage of a step works on, by value.
 use grid::{MOST_BREAKERS, MOST_STATIONS};
 
-#[derive(Drop)]
+#[derive(Clone, Copy)]
 pub struct DcTransientState {
     pub time_ms: f64,
     // Voltages, then cable currents: 000's station_voltages_kv and cable_currents_ka, packed as in its rk4_step.
@@ -13,13 +13,13 @@ pub struct DcTransientState {
 }
 
 // The numbers of a state that a step moves: station voltages in kV, then cable currents in kA; zeros past them.
-#[derive(Drop)]
+#[derive(Clone, Copy)]
 pub struct StageState {
     pub y: [f64; 96],
 }
 
 // How fast each of them changes, per second, in the same places.
-#[derive(Drop)]
+#[derive(Clone, Copy)]
 pub struct StageSlopes {
     pub dy: [f64; 96],
 }

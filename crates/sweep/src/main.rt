@@ -1,5 +1,7 @@
 // Reads a sheet on standard input and prints the cases that its breakers do not meet, a line each, then a line of totals; or the
 // rule that the sheet breaks and the line that shows it. How far it is goes to standard error.
+#![tactic(auto)]
+
 ghost use Rattle.sweep.specs.Turns.{Within};
 
 mod listing;
@@ -9,7 +11,7 @@ mod progress;
 use libc::STDIN_FILENO;
 
 // What one read came to.
-#[derive(Drop)]
+#[derive(Clone, Copy)]
 pub enum Turn {
     Got(usize),
     End,

@@ -15,7 +15,7 @@ use run_start::rated_voltages;
 use timing::{time_step_ms, total_steps};
 
 // What all cases have in common, worked out once for an advance.
-#[derive(Drop)]
+#[derive(Clone, Copy)]
 pub struct Common {
     pub grid: DcSwitchingSimulator,
     pub order: SweepOrder,

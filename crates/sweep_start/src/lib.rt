@@ -1,4 +1,6 @@
 // The start of a sweep: its refusals, the flow, and the sweep that is kept.
+#![tactic(auto)]
+
 mod start;
 
 pub use start::{StartedSweep, start_sweep};

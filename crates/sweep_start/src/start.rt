@@ -10,7 +10,7 @@ use power_flow::{no_solution, solve_dc_power_flow};
 use rules::{Verdict, check_sweep, number};
 use runs::blank_grid;
 
-#[derive(Drop)]
+#[derive(Clone, Copy)]
 pub struct StartedSweep {
     pub verdict: Verdict,
     pub sweep: Sweep,

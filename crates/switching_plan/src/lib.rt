@@ -1,4 +1,6 @@
 // What a switching run works out once, and the initial values of its variables.
+#![tactic(auto)]
+
 mod plan;
 mod variables;
 

@@ -17,7 +17,7 @@ use state_derivatives::DcTransientState;
 use timing::{duration_ms, time_step_ms};
 
 // All that stays the same in every step of a switching run, worked out once.
-#[derive(Drop)]
+#[derive(Clone, Copy)]
 pub struct SwitchingPlan {
     pub network: Network,
     pub n_breakers: usize,

@@ -1,4 +1,6 @@
 // Switching runs: one breaker operation, run in portions on lent memory.
+#![tactic(auto)]
+
 mod switching_run;
 
 pub use runs::DcTransientResult;

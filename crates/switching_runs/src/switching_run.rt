@@ -13,7 +13,7 @@ use switching_step::switching_step;
 use timing::{is_recorded, record_length, total_steps};
 
 // A kept run: the grid, the operation, the steps made and 000's variables after the last of them.
-#[derive(Drop)]
+#[derive(Clone, Copy)]
 pub struct SwitchingRun {
     pub grid: DcSwitchingSimulator,
     pub breaker_id: u64,
@@ -22,7 +22,7 @@ pub struct SwitchingRun {
     pub variables: SwitchingVariables,
 }
 
-#[derive(Drop)]
+#[derive(Clone, Copy)]
 pub struct AdvancedSwitchingRun {
     pub stop: Stop,
     pub steps: u64,

@@ -9,7 +9,7 @@ use runs::{blank_grid, blank_state};
 use switching_plan::{SwitchingVariables, first_switching_variables};
 use switching_runs::SwitchingRun;
 
-#[derive(Drop)]
+#[derive(Clone, Copy)]
 pub struct StartedSwitchingRun {
     pub verdict: Verdict,
     pub run: SwitchingRun,

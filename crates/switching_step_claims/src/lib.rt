@@ -1,1 +1,2 @@
 // What is worked out once changes nothing. There is no code in this crate.
+#![tactic(auto)]

@@ -8,7 +8,7 @@ use sheet_lines::SheetLine;
 use sheet_parts::{MOST_LINES, counted_on, with_breaker, with_cable, with_station};
 
 // What the lines taken so far say.
-#[derive(Drop)]
+#[derive(Clone, Copy)]
 pub struct Sheet {
     pub grid: DcSwitchingSimulator,
     pub order: SweepOrder,

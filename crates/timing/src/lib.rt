@@ -1,4 +1,6 @@
 // The time of a run: how many steps it has and which of them are recorded.
+#![tactic(auto)]
+
 mod steps;
 
 pub use steps::{

@@ -17,14 +17,14 @@ use state_derivatives::{
 };
 
 // A stage whose slopes are taken `ahead_s` seconds after the start.
-#[derive(Drop)]
+#[derive(Clone, Copy)]
 struct Stage {
     setting: StageSetting,
     ahead_s: f64,
 }
 
 // The slopes of one number of the state.
-#[derive(Drop)]
+#[derive(Clone, Copy)]
 struct Slopes {
     k1: f64,
     k2: f64,
