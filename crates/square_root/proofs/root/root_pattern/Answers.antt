@@ -1,0 +1,15 @@
+-- `root_pattern` meets its contract. Assumes nothing.
+use native.Mathlib.Omega.{arith}
+use mathlib.Core.Path.{refl}
+use Rattle.square_root.proofs.RootNumbers.{even, odd, lift}
+use Rattle.square_root.proofs.root.root_pattern.Goals as goal
+
+pub returns-then-w-eq0 : goal.returns-then-w-eq0
+returns-then-w-eq0 c =
+    let e = c.nearest_root.ensures in
+    record { q = c.nearest_root.result; is = refl; placed = lift _ _ _ _ _ (even _ _ c.if-w-eq0.true) (omega arith) (omega arith) e.1 e.0 }
+
+pub returns-else-w-eq0 : goal.returns-else-w-eq0
+returns-else-w-eq0 c =
+    let e = c.nearest_root-else-w-eq0.ensures in
+    record { q = c.nearest_root-else-w-eq0.result; is = refl; placed = lift _ _ _ _ _ (odd _ _ c.if-w-eq0.false) (omega arith) (omega arith) e.1 e.0 }
