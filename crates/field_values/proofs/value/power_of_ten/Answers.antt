@@ -1,0 +1,32 @@
+use Prim.Native.Nat.{ℕ, suc, ◌≤◌}
+use native.Mathlib.Nat.{le_antisymm}
+use mathlib.Core.Path.{◌≡◌}
+use native.Mathlib.Omega.{arith}
+use Rattle.field_values.proofs.value.power_of_ten.Goals as goal
+
+past : {k x : ℕ} → k ≤ x → (x ≡ k → ⊥) → suc k ≤ x
+past h n = omega arith
+
+pub returns-in-0 : goal.returns-in-0
+returns-in-0 c = rw c.in-0.keys1
+
+pub returns-in-1 : goal.returns-in-1
+returns-in-1 c = rw c.in-0.keys2
+
+pub returns-in-2 : goal.returns-in-2
+returns-in-2 c = rw c.in-0.keys3
+
+pub returns-in-3 : goal.returns-in-3
+returns-in-3 c = rw c.in-0.keys4
+
+pub returns-in-4 : goal.returns-in-4
+returns-in-4 c = rw c.in-0.keys5
+
+pub returns-in-5 : goal.returns-in-5
+returns-in-5 c = rw c.in-0.keys6
+
+pub returns-in_default : goal.returns-in_default
+returns-in_default c =
+    let r = c.in-0.rest in
+    let h : 6 ≤ c.args.places = past (past (past (past (past (past (omega arith) r.0.0.0.0.0.1) r.0.0.0.0.1) r.0.0.0.1) r.0.0.1) r.0.1) r.1 in
+    rw (le_antisymm c.requires h)
