@@ -7,7 +7,7 @@ pub returns-in_default : goal.returns-in_default
 returns-in_default c = let a = c.args in real_wrong (take 12 (drop a.at a.line.now)) (sym c.field_at-field.ensures ∙ c.in_default.is)
 
 pub nearest_double-requires : goal.nearest_double-requires
-nearest_double-requires c = let a = c.args in let cs = take 12 (drop a.at a.line.now) in let d = c.in-Number.number in let h = sym c.field_at-field.ensures ∙ c.in-Number.is in (few_digits cs d h, few_places cs d h)
+nearest_double-requires c = let a = c.args in let cs = take 12 (drop a.at a.line.now) in let d = c.in-Number.number in let h = sym c.field_at-field.ensures ∙ c.in-Number.is in record { digits_bound = few_digits cs d h; places_bound = few_places cs d h }
 
 pub returns : goal.returns
 returns c = let a = c.args in real_is (take 12 (drop a.at a.line.now)) c.in-Number.number (sym c.field_at-field.ensures ∙ c.in-Number.is) c.nearest_double.result c.nearest_double.ensures

@@ -11,13 +11,13 @@ power_small : (r p : ℕ) → p ≤ 6 → r ≡ 10 ^ p → r ≤ 2 ^ 53
 power_small r p h e = omega (arith, pow-le-pow_right {n = 10} (omega arith) h)
 
 pub int_to_float-d : goal.int_to_float-d
-int_to_float-d c = in_float_lem _ c.requires.0
+int_to_float-d c = in_float_lem _ c.requires.digits_bound
 
 pub int_to_float-p : goal.int_to_float-p
-int_to_float-p c = in_float_lem _ (power_small c.power_of_ten-p.result c.args.places c.requires.1 c.power_of_ten-p.ensures)
+int_to_float-p c = in_float_lem _ (power_small c.power_of_ten-p.result c.args.places c.requires.places_bound c.power_of_ten-p.ensures)
 
 pub returns : goal.returns
 returns c =
     let p = c.power_of_ten-p in
-    divided c.args.digits p.result c.requires.0 (power_small p.result c.args.places c.requires.1 p.ensures) (rw p.ensures (one-le-pow c.args.places 10 (omega arith)))
+    divided c.args.digits p.result c.requires.digits_bound (power_small p.result c.args.places c.requires.places_bound p.ensures) (rw p.ensures (one-le-pow c.args.places 10 (omega arith)))
     ∙ ap (round binary64 false c.args.digits) p.ensures

@@ -8,25 +8,25 @@ past : {k x : ℕ} → k ≤ x → (x ≡ k → ⊥) → suc k ≤ x
 past h n = omega arith
 
 pub returns-in-0 : goal.returns-in-0
-returns-in-0 c = rw c.in-0.keys1
+returns-in-0 c = rw c.in-0.is
 
 pub returns-in-1 : goal.returns-in-1
-returns-in-1 c = rw c.in-0.keys2
+returns-in-1 c = rw c.in-1.is
 
 pub returns-in-2 : goal.returns-in-2
-returns-in-2 c = rw c.in-0.keys3
+returns-in-2 c = rw c.in-2.is
 
 pub returns-in-3 : goal.returns-in-3
-returns-in-3 c = rw c.in-0.keys4
+returns-in-3 c = rw c.in-3.is
 
 pub returns-in-4 : goal.returns-in-4
-returns-in-4 c = rw c.in-0.keys5
+returns-in-4 c = rw c.in-4.is
 
 pub returns-in-5 : goal.returns-in-5
-returns-in-5 c = rw c.in-0.keys6
+returns-in-5 c = rw c.in-5.is
 
 pub returns-in_default : goal.returns-in_default
 returns-in_default c =
-    let r = c.in-0.rest in
+    let r = c.in_default.rest in
     let h : 6 ≤ c.args.places = past (past (past (past (past (past (omega arith) r.0.0.0.0.0.1) r.0.0.0.0.1) r.0.0.0.1) r.0.0.1) r.0.1) r.1 in
     rw (le_antisymm c.requires h)

@@ -58,4 +58,4 @@ pub returns : goal.returns
 returns c =
     let l = c.loop-j in
     let e : l.j ≡ 0 = omega arith in
-    (rw e at l.invariant.2) ∙ stored c.args.out.now c.args.at c.args.width c.args.n c.requires.0 c.requires.1 (omega arith)
+    (rw e at l.invariant.2) ∙ stored c.args.out.now c.args.at c.args.width c.args.n c.requires.width_in_bounds c.requires.width_nonzero (omega arith)
