@@ -4,9 +4,6 @@ use mathlib.Core.Path.{◌≡◌}
 use native.Mathlib.Omega.{arith}
 use Rattle.field_values.proofs.value.power_of_ten.Goals as goal
 
-past : {k x : ℕ} → k ≤ x → (x ≡ k → ⊥) → suc k ≤ x
-past h n = omega arith
-
 pub returns-in-0 : goal.returns-in-0
 returns-in-0 c = rw c.in-0.is
 
@@ -27,6 +24,5 @@ returns-in-5 c = rw c.in-5.is
 
 pub returns-in_default : goal.returns-in_default
 returns-in_default c =
-    let r = c.in_default.rest in
-    let h : 6 ≤ c.args.places = past (past (past (past (past (past (omega arith) r.0.0.0.0.0.1) r.0.0.0.0.1) r.0.0.0.1) r.0.0.1) r.0.1) r.1 in
+    let h : 6 ≤ c.args.places = omega arith in
     rw (le_antisymm c.requires h)
