@@ -1,0 +1,17 @@
+-- `real` meets its contract. Assumes nothing.
+use mathlib.Core.Path.{sym, ◌∙◌, ap}
+use native.Mathlib.Omega.{arith}
+use Rattle.sheet_lines.specs.Fields.{real_in}
+use Rattle.sheet_lines.proofs.fields.real.Goals as goal
+
+pub overflow_mul-at : goal.overflow_mul-at
+overflow_mul-at c = omega arith
+
+pub overflow_add-at : goal.overflow_add-at
+overflow_add-at c = omega arith
+
+pub returns-in_default : goal.returns-in_default
+returns-in_default c = ap real_in (sym c.in_default.is ∙ c.real_at.ensures)
+
+pub returns : goal.returns
+returns c = ap real_in (sym c.in-Real.is ∙ c.real_at.ensures)

@@ -1,0 +1,16 @@
+-- `breaker_type_of` meets its contract. Assumes nothing.
+use borrow.Author.Tests.{ne_eqb}
+use Rattle.sheet_lines.specs.Lines.{breaker_type_of}
+use Rattle.sheet_lines.proofs.line.breaker_type_of.Goals as goal
+
+pub returns-in-1 : goal.returns-in-1
+unfolding breaker_type_of
+returns-in-1 c = rw c.in-1.is
+
+pub returns-in-2 : goal.returns-in-2
+unfolding breaker_type_of
+returns-in-2 c = rw c.in-2.is
+
+pub returns-in_default : goal.returns-in_default
+unfolding breaker_type_of
+returns-in_default c = simp (ne_eqb _ _ c.in_default.in_default-own.rest.0.1, ne_eqb _ _ c.in_default.in_default-own.rest.1)
