@@ -13,15 +13,10 @@ use Rattle.fault_circuit.specs.Parameters.{parameters_at, parameters_of, station
 use mathlib.Core.Path.{◌≡◌, ◌∙◌}
 use Rattle.lists.proofs.Scanning.{unmapped}
 use borrow.Author.Rules.{rules}
-use Rattle.fault_circuit.proofs.parameters.fault_rlc_params.Statement.{statement}
-use Rattle.fault_circuit.proofs.parameters.fault_rlc_params.Tie as tie
-
-long : (c : tie.Start) → (length c.args.g.cables ≡ 64) × (length c.args.g.stations ≡ 32)
-long c = search (rules, unmapped)
+use Rattle.fault_circuit.proofs.parameters.fault_rlc_params.Goals as goal
 
 -- what stands at a place within an array does not depend on what stands for a place outside it
-picked
-    : (g : DcSwitchingSimulator) (f : DcFaultEvent) (d : DcCable) (e : ConverterStation) → length g.cables ≡ 64 → length g.stations ≡ 32
+picked : (g : DcSwitchingSimulator) (f : DcFaultEvent) (d : DcCable) (e : ConverterStation) → length g.cables ≡ 64 → length g.stations ≡ 32
     → parameters_at (get_or g.cables (cut (min g.n_cables 64) f.location_cable_id) d) (get_or g.stations (cut (min g.n_stations 32) (get_or g.cables (cut (min g.n_cables 64) f.location_cable_id) d).from_station) e) (stations_capacitance g) f
     ≡ parameters_of g f
 picked g f d e l m =
@@ -29,17 +24,7 @@ picked g f d e l m =
     (let c = get_or g.cables (cut (min g.n_cables 64) f.location_cable_id) blank_cable in
     rw (get_d_within g.stations (cut (min g.n_stations 32) c.from_station) e blank_station (omega arith)))
 
-returns : tie.Need-returns
+pub returns : goal.returns
 returns c =
-    let q = c.before in
-    let s = q.before.before in
-    let k = s.before.before in
-    let n = k.before.before in
-    c.parameters-at.ensures ∙ rw (q.capacitance_of_lem.ensures, s.cut-end2.ensures, k.cut-end.ensures, k.before.present2.ensures, n.present.ensures) (let b = n.before.before.before in picked b.args.g b.args.fault _ _ (long b).0 (long b).1)
-
-pub fault-rlc-params-spec : {M : Type 1} → statement M
-fault-rlc-params-spec =
-    tie.close
-    (tie.spec
-    (λ c κs. search rules) (λ c κs. search rules) (λ c κs. search rules) (λ c. search rules) (λ c. search rules) (λ c κs. search rules)
-    (λ c. search rules) (λ c. search rules) (λ c κs. search rules) (λ c κs. search rules) returns)
+    let long : (length c.args.g.cables ≡ 64) × (length c.args.g.stations ≡ 32) = search (rules, unmapped) in
+    c.parameters_at.ensures ∙ rw (c.capacitance_of.ensures, c.cut_end-from.ensures, c.cut_end-k.ensures, c.present.ensures, c.present-n.ensures) (picked c.args.g c.args.fault _ _ (long).0 (long).1)
