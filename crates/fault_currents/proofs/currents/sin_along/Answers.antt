@@ -1,0 +1,11 @@
+-- `sin_along` meets its contract. Assumes nothing.
+use Rattle.lists.specs.Tables.{blank}
+use Rattle.float64.specs.Arithmetic.{of, ◌⊗◌}
+use Rattle.elementary.specs.Wave.{S}
+use Rattle.fault_currents.proofs.Composed.{lanes_through}
+use Rattle.fault_currents.proofs.currents.sin_along.Goals as goal
+
+pub returns : goal.returns
+unfolding blank
+returns c =
+    lanes_through 16 S (λ j. c.args.a ⊗ of c.args.t.now j) c.scale.ensures c.sin_lanes.ensures
