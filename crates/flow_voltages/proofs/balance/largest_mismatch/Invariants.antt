@@ -1,0 +1,11 @@
+-- `largest_mismatch` meets its contract. Assumes nothing.
+use Rattle.flow_voltages.specs.Balance.{largest}
+use mathlib.Core.Path.{◌≡◌}
+use Prim.Native.Nat.{◌-◌, ◌≤◌}
+use Rattle.flow_voltages.proofs.balance.largest_mismatch.Given as goal
+
+abbrev pub invariant-loop-i : goal.invariant-loop-i
+invariant-loop-i l = (l.i ≤ l.n - 1) × (l.most ≡ largest l.d l.i)
+
+abbrev pub decreases-loop-i : goal.decreases-loop-i
+decreases-loop-i l = l.n - l.i
