@@ -14,7 +14,7 @@ use Rattle.lists.proofs.Scanning.{left, right, both}
 use Rattle.sheet_lines.specs.Lines.{line_of}
 use Rattle.sheet_lines.specs.declared.line.SheetLine.{SheetLine}
 use Rattle.sheet_lines.specs.declared.line.SheetLine.TheVariants.{Wrong}
-use Rattle.sheet_lines.proofs.WrongLines.{feedless, too_long, unended}
+use Rattle.sheet_lines.proofs.WrongLines.{feedless, too_long as too_long_lem, unended}
 use Rattle.whole_sheets.specs.Sheets.{before, lines_of, most_lines, said, grid_in, order_in, refusal_of, answered, sheet_answer}
 use Rattle.taken_lines.specs.Taken.{empty_sheet, stopped_at, with_line}
 use Rattle.sheet_bytes.specs.Bytes.{longest, start_of, stopped_in, line_taken, byte_kept, too_long, byte_taken, ended_of}
@@ -84,7 +84,7 @@ at_end_lem r g w i f = go r.length refl
 
 spilled : (s : Sheet) (p : List ℕ) (b : ℕ) (l : List ℕ) (ls : List (List ℕ)) → length p ≡ longest → stopped_at s ≡ false → after s ((p ++ (b ∷ l)) ∷ ls) ≡ with_line s Wrong
 spilled s p b l ls h g =
-    ap (λ x. foldl with_line (with_line s x) (map line_of ls)) (too_long (p ++ (b ∷ l)) (rw length-append (omega arith)))
+    ap (λ x. foldl with_line (with_line s x) (map line_of ls)) (too_long_lem (p ++ (b ∷ l)) (rw length-append (omega arith)))
     ∙ lines_stopped (with_line s Wrong) (map line_of ls) (wrong_stops s g)
 
 spill : (s : Sheet) (p : List ℕ) (b : ℕ) (bs : List ℕ) → length p ≡ longest → stopped_at s ≡ false → after s (attach p (lines_of (b ∷ bs))) ≡ with_line s Wrong

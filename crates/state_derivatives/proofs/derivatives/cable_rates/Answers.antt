@@ -36,10 +36,10 @@ pub bounds-y-cut_end : goal.bounds-y-cut_end
 bounds-y-cut_end c = omega arith
 
 pub offset_bounds-to-k : goal.offset_bounds-to-k
-offset_bounds-to-k c = offset_bounds-from-k c.before.before.before
+offset_bounds-to-k c = omega arith
 
 pub bounds-to-k : goal.bounds-to-k
-bounds-to-k c = bounds-from-k c.before.before.before
+bounds-to-k c = omega arith
 
 pub cut_end-requires-in-loop-k : goal.cut_end-requires-in-loop-k
 cut_end-requires-in-loop-k c = tt
@@ -60,28 +60,28 @@ pub bounds-y-n : goal.bounds-y-n
 bounds-y-n c = omega arith
 
 pub offset_bounds-r-k : goal.offset_bounds-r-k
-offset_bounds-r-k c = offset_bounds-to-k c.before.before.before.before
+offset_bounds-r-k c = omega arith
 
 pub bounds-r-k : goal.bounds-r-k
-bounds-r-k c = bounds-to-k c.before.before.before.before
+bounds-r-k c = omega arith
 
 pub offset_bounds-l-k : goal.offset_bounds-l-k
-offset_bounds-l-k c = offset_bounds-r-k c.before
+offset_bounds-l-k c = omega arith
 
 pub bounds-l-k : goal.bounds-l-k
-bounds-l-k c = bounds-r-k c.before
+bounds-l-k c = omega arith
 
 pub cable_rate-requires : goal.cable_rate-requires
 cable_rate-requires c = tt
 
 pub overflow_add-dy : goal.overflow_add-dy
-overflow_add-dy c = overflow_add-cable c.before.before.before.before
+overflow_add-dy c = omega arith
 
 pub offset_bounds-dy-n : goal.offset_bounds-dy-n
-offset_bounds-dy-n c = offset_bounds-y-n c.before.before.before.before
+offset_bounds-dy-n c = omega arith
 
 pub bounds-dy-n : goal.bounds-dy-n
-bounds-dy-n c = bounds-y-n c.before.before.before.before
+bounds-dy-n c = omega arith
 
 pub overflow_add-k : goal.overflow_add-k
 overflow_add-k c = omega arith
