@@ -70,7 +70,7 @@ fault_run_after g f t = record { grid = g; fault = f; steps_made = t; variables 
 unfoldable pub started_fault_run : DcSwitchingSimulator → DcFaultEvent → FaultRun
 started_fault_run g f = cond (eqb (fault_refusal g f) 0) (fault_run_after g f 0) blank_fault_run
 
--- what `advance` returns; the lent memory after it is `memoryOf faultStepper`
+-- what `advance` returns; the lent memory after it is `memory_of fault_stepper`
 unfoldable pub advanced_fault_run : FaultRun → (allowance : ℕ) → List Float → AdvancedFaultRun
 advanced_fault_run r allowance lent =
     let x = answer_of fault_stepper r allowance lent in

@@ -60,7 +60,7 @@ sweep_stepper =
       next = λ s. sweep_with s.grid s.order s.flow (next_kept (cases_in s) (kept_in s));
     }
 
--- what `advance` returns; the lent memory after it is `memoryOf sweepStepper`
+-- what `advance` returns; the lent memory after it is `memory_of sweep_stepper`
 unfoldable pub advanced_sweep : Sweep → (allowance : ℕ) → List ℕ → AdvancedSweep
 advanced_sweep s allowance lent =
     let x = answer_of sweep_stepper s allowance lent in

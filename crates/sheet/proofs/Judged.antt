@@ -131,7 +131,7 @@ line_is p rule = refl
 
 -- ---- the end of the lines
 
--- refusalOf, from the lines p on
+-- refusal_of, from the lines p on
 abbrev judged_by : Refusal → List SheetLine → Refusal
 judged_by f ls = cond (eqb f.number 0) (refused (rule_of ls) (shown_at ls (rule_of ls))) f
 

@@ -17,7 +17,7 @@ early a b c d e n = cond a 3 (cond b 1 (cond c 2 (cond d 4 (cond e 5 n))))
 abbrev late : (a b c d : Bool) → ℕ
 late a b c d = cond a 6 (cond b 7 (cond c 8 (cond d 9 0)))
 
--- lineRule, of what is known of the lines
+-- line_rule, of what is known of the lines
 abbrev patched : (x y z : Bool) → ℕ → ℕ
 patched x y z n = cond (eqb n 6 || x) 6 (cond (eqb n 7 || y) 7 (cond (eqb n 8 || z) 8 n))
 

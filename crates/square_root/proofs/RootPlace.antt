@@ -16,7 +16,7 @@ use Rattle.square_root.specs.RootDigits.{Placed, RootPattern, Shifted}
 use Rattle.float64.proofs.Fields.{Read, read, units_at, units_below, made}
 use Rattle.square_root.proofs.RootNumbers.{sq_lt, root_ge, less_one}
 
--- ---- floorRoot
+-- ---- floor_root
 record Cut (n r : ℕ) : Type 0 where
   low : r * r ≤ n
   high : n < (r + 1) * (r + 1)

@@ -53,7 +53,7 @@ nearest_root n p = let r = floor_root 53 (n / p) in cond (ltb ((2 * r + 1) * (2 
 abbrev pub last_place : ℕ → ℕ
 last_place n = (size n - 105) / 2
 
--- the double of nearestRoot n (4 ^ j) * 2 ^ j units at j = lastPlace n, by its bits
+-- the double of nearest_root n (4 ^ j) * 2 ^ j units at j = last_place n, by its bits
 abbrev pub root_at : ℕ → Float
 root_at n = of_bits binary64 (last_place n * 2 ^ 52 + nearest_root n (2 ^ (2 * last_place n)))
 

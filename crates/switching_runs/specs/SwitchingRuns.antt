@@ -61,7 +61,7 @@ switching_run_after g number opens t = record { grid = g; breaker_id = number; �
 unfoldable pub started_switching_run : DcSwitchingSimulator → ℕ → Bool → SwitchingRun
 started_switching_run g number opens = cond (eqb (switching_refusal g) 0) (switching_run_after g number opens 0) blank_switching_run
 
--- what `advance` returns; the lent memory after it is `memoryOf switchingStepper`
+-- what `advance` returns; the lent memory after it is `memory_of switching_stepper`
 unfoldable pub advanced_switching_run : SwitchingRun → (allowance : ℕ) → List Float → AdvancedSwitchingRun
 advanced_switching_run r allowance lent =
     let x = answer_of switching_stepper r allowance lent in
