@@ -6,7 +6,7 @@ use Prim.Native.Nat.{ℕ, zero, suc, ◌+◌, ◌-◌, ◌*◌, ◌≤◌, ◌<�
 use native.Mathlib.Nat.{le_trans, le_of_eq, sub-le, mul-pos, mul_comm, mul_assoc, mul_left_comm, mul-le-mul, mul-le-mul_right, zero-mul}
 use native.Mathlib.Omega.{arith}
 use borrow.Author.Tests.{lt-ltb, le-ltb}
-use lib.Dec.{T, ltb, eqb, ltb→lt, eqb-suc-zero}
+use lib.Dec.{T, eqb, ltb→lt, eqb-suc-zero}
 use lib.Ieee.{Float, nan, inf, fin, Format, binary64, up, down, round, neg, sum, add, sub, mul, div, lt, le, ne, is_nan, fits}
 use lib.Ieee.Fits.{up_pos, down_pos}
 use lib.Ieee.Order.{round_mono}
