@@ -7,7 +7,7 @@ use native.Mathlib.Nat.{le_of_lt, le_of_eq, le_trans, lt_of_lt_of_le, lt_of_le_o
 use native.Mathlib.Omega.{arith}
 use lib.Dec.{T, lit≤}
 use lib.Pow.{pow-add, pow_pos}
-use lib.Ieee.{Float, binary64, fits, size, nearest, round}
+use lib.Ieee.{Float, binary64, fits, size, round}
 use lib.Ieee.Digits.{size_reaches, back}
 use lib.Ieee.Fits.{round-fits}
 use lib.Ieee.Order.{drop, kept}
