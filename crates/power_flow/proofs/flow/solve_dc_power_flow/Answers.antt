@@ -6,7 +6,7 @@ use Rattle.lists.proofs.Counting.{yes, no}
 use Rattle.power_flow.proofs.flow.solve_dc_power_flow.Goals as goal
 
 pub solution_at-requires : goal.solution_at-requires
-solution_at-requires c = let f = c.find_with_currents-found.ensures in rw f.0 f.1
+solution_at-requires c = let f = c.find_with_currents-found.ensures in rw f.voltages f.currents
 
 pub returns-then-number-eq0 : goal.returns-then-number-eq0
 unfolding flow_answer
