@@ -1,6 +1,5 @@
 -- `normalised` meets its contract. Assumes nothing.
 use mathlib.Core.Path.{refl}
-use Prim.Native.Nat.{◌-◌}
 use native.Mathlib.Omega.{arith}
 use Rattle.square_root.proofs.RootNumbers.{places, doubled, more_places}
 use Rattle.square_root.proofs.root.normalised.Goals as goal
