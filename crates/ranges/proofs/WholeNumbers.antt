@@ -8,7 +8,7 @@ use native.Mathlib.Omega.{arith}
 use borrow.Author.Tests.{ltb-true, lt-ltb, le-ltb, lt-leb}
 use lib.Dec.{ltb, leb}
 use lib.IntN.{pos}
-use lib.Ieee.{Float, binary64, of_int, round, le}
+use lib.Ieee.{binary64, of_int, le}
 use lib.Ieee.Back.{round_whole}
 use Rattle.lists.proofs.Counting.{lt_or_le}
 use Rattle.lists.proofs.Scanning.{passed, left, right, and_second}

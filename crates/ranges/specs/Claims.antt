@@ -1,5 +1,5 @@
 -- What document 01 says of ranges in words, and what a reader expects beside the definitions. The proofs are in proofs/Claims.antt.
-use Rattle.std.specs.Prelude.{◌≡◌, true, false, ℕ, ◌-◌, ◌^◌, ◌≤◌, ◌<◌, pos}
+use Rattle.std.specs.Prelude.{◌≡◌, true, false, ℕ, ◌^◌, ◌≤◌, ◌<◌, pos}
 use Rattle.std.specs.Float.{nan, binary64}
 use Rattle.std.specs.Float.Ieee.{of_int}
 use Rattle.ranges.specs.Ranges.{Ends, row_of, real_in, whole_in}
