@@ -14,8 +14,7 @@ use Prim.Native.Nat.{ℕ, ◌<◌}
 use mathlib.Core.List.{List}
 use mathlib.Core.Path.{◌≡◌}
 use borrow.Author.Rules.{rules}
-use Rattle.switching_plan.proofs.plan.driven_current.Statement.{statement}
-use Rattle.switching_plan.proofs.plan.driven_current.Tie as tie
+use Rattle.switching_plan.proofs.plan.driven_current.Goals as goal
 
 -- stations read at the cut ends
 between : (stations : List ConverterStation) (f t n : ℕ) (c : DcCable) (d : ConverterStation) (r : Float) → f ≡ cut n c.from_station → t ≡ cut n c.to_station
@@ -23,19 +22,7 @@ between : (stations : List ConverterStation) (f t n : ℕ) (c : DcCable) (d : Co
     → ((get_or stations f d).v_dc_rated_kv ⊖ (get_or stations t d).v_dc_rated_kv) ⊘ r ≡ driven_current stations n c
 between stations f t n c d r e e' l l' h = rw (get_d_within stations f d blank_station l, get_d_within stations t d blank_station l', h, e, e')
 
-long : (c : tie.Start) → length c.args.t1 ≡ 32
-long c = search (rules, unmapped)
-
-returns : tie.Need-returns
+pub returns : goal.returns
 returns c =
-    let t = c.before.before.before.before in
-    let f = t.before.before in
-    let s = f.before in
-    between s.args.t1 f.cut-end.result t.cut-end2.result s.args.n s.args.c _ _ f.cut-end.ensures t.cut-end2.ensures (omega (arith, long s, f.cut-end.ensures, s.requires)) (omega (arith, long s, t.cut-end2.ensures, s.requires)) c.cable-resistance.ensures
-
-pub driven-current-spec : {M : Type 1} → statement M
-driven-current-spec =
-    tie.close
-    (tie.spec
-    (λ c κs. search rules) (λ c. search rules) (λ c. search rules) (λ c κs. search rules) (λ c. search rules) (λ c. search rules)
-    (λ c κs. search rules) returns)
+    let long : length c.args.stations ≡ 32 = search (rules, unmapped) in
+    between c.args.stations c.cut_end.result c.cut_end-2.result c.args.n c.args.c _ _ c.cut_end.ensures c.cut_end-2.ensures (omega (arith, long, c.cut_end.ensures, c.requires)) (omega (arith, long, c.cut_end-2.ensures, c.requires)) c.cable_resistance.ensures
