@@ -33,8 +33,7 @@ loop-i-smaller c = omega arith
 
 pub loop-i-preserved : goal.loop-i-preserved
 loop-i-preserved c =
-    let long : length c.args.g.breakers ≡ 32 = search (rules, unmapped) in
-    (
+    let long : length c.args.g.breakers ≡ 32 = search (rules, unmapped) in (
       omega arith,
       c.faster_of-fastest.ensures ∙ rw (c.breaker_clearing_time_ms.ensures, c.loop-i.invariant.1) (by_one_test _ (foldl faster largest (take c.loop-i.i c.args.g.breakers)) (never_nan (take c.loop-i.i c.args.g.breakers)) ∙ sym (fold_more faster largest _ c.args.g.breakers c.loop-i.i (omega (arith, long)))),
     )

@@ -16,8 +16,7 @@ put_bytes-requires c = omega arith
 
 pub loop-i-preserved : goal.loop-i-preserved
 loop-i-preserved c =
-    let l = c.loop-i in
-    (
+    let l = c.loop-i in (
       omega arith,
       omega arith,
       c.out-1.given ∙ l.invariant.2,

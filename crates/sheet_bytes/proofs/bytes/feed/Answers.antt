@@ -70,8 +70,7 @@ loop-i-smaller-else-has_stopped-2 c = omega arith
 pub loop-i-preserved-else-has_stopped-2 : goal.loop-i-preserved-else-has_stopped-2
 loop-i-preserved-else-has_stopped-2 c =
     let taken : c.with_line-sheet.result ≡ with_line c.loop-i.sheet (line_of (take (c.loop-i.length + 1) (set c.loop-i.line c.loop-i.length (get_or c.args.piece.now c.loop-i.i 0)))) = c.with_line-sheet.ensures ∙ ap (with_line c.loop-i.sheet) c.line_of.ensures in
-    let l = c.loop-i in
-    (
+    let l = c.loop-i in (
       omega arith,
       on _ _ _ c.args.piece.now l.i (omega arith) l.invariant.1 (line_way (record { sheet = l.sheet; line = l.line; length = l.length }) _ l.invariant.2 (omega arith) c.if-b-eq-LINE_FEED.true _ (taken)),
       sym c.has_stopped-then-b-eq-LINE_FEED.ensures ∙ c.if-has_stopped-2.false,
