@@ -8,9 +8,7 @@ use lib.Dec.{eqb}
 use Rattle.lists.proofs.Counting.{by-test}
 use mathlib.Core.Bool.{Bool, true, false, not, ◌&&◌, cond}
 use mathlib.Core.Path.{◌≡◌, refl}
-use borrow.Author.Rules.{rules}
-use Rattle.fault_runs.proofs.fault_run.FaultRun.figures.Statement.{statement}
-use Rattle.fault_runs.proofs.fault_run.FaultRun.figures.Tie as tie
+use Rattle.fault_runs.proofs.fault_run.FaultRun.figures.Goals as goal
 
 -- with one clearing time for both
 figured : (g : DcSwitchingSimulator) (v : FaultVariables) (b : Bool)
@@ -27,12 +25,7 @@ figured : (g : DcSwitchingSimulator) (v : FaultVariables) (b : Bool)
 figured g v true = by-test v.fault_cleared (λ h. rw h) (λ h. rw h)
 figured g v false = refl
 
-returns : tie.Need-returns
+pub returns : goal.returns
 unfolding fault_figures
 returns c =
-    let t = c.before.before.before.before in
-    let a = t.before.before.before.args in
-    rw (c.clearing_time.ensures, c.before.duration-ms.ensures, t.total-steps.ensures) (figured a.self.grid a.self.variables (eqb a.self.steps_made (counted_to (steps_of a.self.grid))))
-
-pub figures-spec : {M : Type 1} → statement M
-figures-spec = tie.close (tie.spec (λ c κs. search rules) (λ c κs. search rules) (λ c κs. search rules) returns)
+    rw (c.clearing_time.ensures, c.duration_ms.ensures, c.total_steps.ensures) (figured c.args.self.grid c.args.self.variables (eqb c.args.self.steps_made (counted_to (steps_of c.args.self.grid))))
