@@ -19,7 +19,7 @@ of_tables k n m from to r l c rated =
 
 abbrev pub invariant-loop-step : goal.invariant-loop-step
 invariant-loop-step l =
-    of_tables l.k l.n l.m l.from l.to l.r l.l l.c l.rated in
+    let p = of_tables l.k l.n l.m l.from l.to l.r l.l l.c l.rated in
     (look_from p l.step (at l.y l.time_ms l.active) (l.end - l.step)).detected ≡ (look_from p l.first (at l.initial.y l.initial.time_ms l.initial.active) (l.end - l.first)).detected
 
 abbrev pub decreases-loop-step : goal.decreases-loop-step
