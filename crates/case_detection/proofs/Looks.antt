@@ -1,6 +1,6 @@
 -- What detection reads of a case, and what a step makes of that: the rest of the case has no part in it. Assumes nothing.
 use Prim.Native.Nat.{ℕ, zero, suc}
-use mathlib.Core.Path.{◌≡◌, refl, sym, ap, ◌∙◌}
+use mathlib.Core.Path.{◌≡◌, refl, ap, ◌∙◌}
 use mathlib.Core.Bool.{Bool, true, false, not, ◌&&◌, ◌||◌, cond}
 use mathlib.Core.List.{List}
 use lib.Dec.{leb}
@@ -17,7 +17,7 @@ use Rattle.recovery.specs.Recovery.{recovering}
 use Rattle.detection.specs.Detection.{shown_by, detected_by}
 use Rattle.fault_plan.specs.declared.variables.FaultVariables.{FaultVariables}
 use Rattle.fault_plan.specs.declared.plan.FaultPlan.{FaultPlan}
-use Rattle.fault_plan.specs.Fault.{active_at, body, while_faulted, after_clearing, before_inception}
+use Rattle.fault_plan.specs.Fault.{body, while_faulted, after_clearing, before_inception}
 use Rattle.fault_plan.specs.Plans.{plan_setting, plan_step}
 use Rattle.case_steps.specs.declared.open_case.OpenCase.{OpenCase}
 use Rattle.case_steps.specs.Plans.{plan_case_step, plan_case_from}

@@ -8,28 +8,30 @@ use Rattle.portions.proofs.Loop.{came_refused}
 use Rattle.timing.specs.Steps.{most_steps}
 use Rattle.lists.proofs.Counting.{contrary}
 use native.Mathlib.Omega.{arith}
-use Prim.Native.Nat.{◌-◌, ◌<◌}
+use Prim.Native.Nat.{◌<◌}
 use mathlib.Core.Bool.{true}
-use mathlib.Core.Logic.{⊎_elim}
 use mathlib.Core.Path.{◌≡◌, refl, sym, ◌∙◌}
 use Rattle.fault_runs.proofs.fault_run.FaultRun.advance.Goals as goal
+use Rattle.fault_runs.proofs.fault_run.FaultRun.advance.Goals.{then-resting-waits, else-resting-waits}
 
 pub loop-counts-preserved : goal.loop-counts-preserved
 loop-counts-preserved c =
     let stepped : let plan = c.fault_plan-plan.result in
     (c.if-resting-waits.v ≡ plan_step plan c.loop-counts.made c.loop-counts.v) × (c.if-resting-waits.resting ≡ true → rests_by plan c.if-resting-waits.v ≡ true) = let plan = c.fault_plan-plan.result in
     let flag = c.loop-counts.invariant.1 in
-    ⊎_elim
-    (λ w.
-    let is-v = w.2 ∙ w.1.ensures ∙ quietly plan c.loop-counts.made c.loop-counts.v c.loop-counts.resting flag c.waits.result c.waits.ensures w.0.taken in
-    (is-v, λ r. rw is-v (still plan c.loop-counts.made c.loop-counts.v c.loop-counts.resting flag (sym w.3 ∙ r))))
-    (λ w. (w.3 ∙ w.1.ensures, λ r. rw w.3 (sym w.2.ensures ∙ sym w.4 ∙ r)))
-    c.if-resting-waits.branch in
+    elim c.if-resting-waits.branch [
+      | then-resting-waits w ↦
+          (let is_v = w.v-is ∙ w.quiet_step-v.ensures ∙ quietly plan c.loop-counts.made c.loop-counts.v c.loop-counts.resting flag c.waits.result c.waits.ensures w.if-resting-waits.true in
+          (is_v, λ r. rw is_v (still plan c.loop-counts.made c.loop-counts.v c.loop-counts.resting flag (sym w.resting-is ∙ r))))
+      | else-resting-waits w ↦ (w.v-is ∙ w.fault_step-v.ensures, λ r. rw w.v-is (sym w.rests-resting.ensures ∙ sym w.resting-is ∙ r))
+    ] in
     let p = c.put_if_recorded-out.ensures in
-    (goes _ c.loop-counts.invariant.0 c.is_recorded-recorded.result c.is_recorded-recorded.ensures c.if-ended-spent.false _ (stepped).0 _ p.0 _ p.1, (stepped).1)
+    (goes _ c.loop-counts.invariant.0 c.is_recorded-recorded.result c.is_recorded-recorded.ensures c.if-ended-spent.false _ stepped.0 _ p.answer _ p.memory, stepped.1)
 
 pub returns-then-fault_run_refused : goal.returns-then-fault_run_refused
-returns-then-fault_run_refused c = returned (came_refused fault_stepper _ _ _ (sym c.fault_run_refused.ensures ∙ c.if-fault_run_refused.true))
+returns-then-fault_run_refused c =
+    let r = returned (came_refused fault_stepper _ _ _ (sym c.fault_run_refused.ensures ∙ c.if-fault_run_refused.true)) in
+    record { answer = r.0; memory = r.1 }
 
 pub nonzero_div-space : goal.nonzero_div-space
 nonzero_div-space c = omega (arith, c.record_length-size.ensures)
@@ -47,26 +49,27 @@ shape_of-records-then-ended-spent c = c.loop-counts.invariant.0.going.same_lengt
 
 pub returns-then-ended-spent : goal.returns-then-ended-spent
 returns-then-ended-spent c =
-    rw c.reason.ensures (returned (leaves _ c.loop-counts.invariant.0 c.is_recorded-recorded.result c.is_recorded-recorded.ensures c.if-ended-spent.true))
+    let r = returned (leaves _ c.loop-counts.invariant.0 c.is_recorded-recorded.result c.is_recorded-recorded.ensures c.if-ended-spent.true) in
+    record { answer = rw c.reason.ensures r.0; memory = r.1 }
 
 pub overflow_mul-size : goal.overflow_mul-size
 overflow_mul-size c =
     omega (arith, position _ c.loop-counts.invariant.0, c.well_formed.1.1.0)
 
 pub overflow_add-out : goal.overflow_add-out
-overflow_add-out c = omega (arith, out_ok _ (loop-counts-preserved c).0, (c).good.1.1.0)
+overflow_add-out c = omega (arith, out_ok _ (loop-counts-preserved c).0, c.well_formed.1.1.0)
 
 pub overflow_add-made : goal.overflow_add-made
 overflow_add-made c =
-    let counted : (c.loop-counts.steps < (c).args.allowance) × (c.loop-counts.made < most_steps) = counted_on_lem _ c.loop-counts.invariant.0 c.is_recorded-recorded.result c.is_recorded-recorded.ensures c.if-ended-spent.false in
-    omega (arith, (counted).1)
+    let counted : (c.loop-counts.steps < c.args.allowance) × (c.loop-counts.made < most_steps) = counted_on_lem _ c.loop-counts.invariant.0 c.is_recorded-recorded.result c.is_recorded-recorded.ensures c.if-ended-spent.false in
+    omega (arith, counted.1)
 
 pub overflow_add-steps : goal.overflow_add-steps
 overflow_add-steps c =
-    let counted : (c.loop-counts.steps < (c).args.allowance) × (c.loop-counts.made < most_steps) = counted_on_lem _ c.loop-counts.invariant.0 c.is_recorded-recorded.result c.is_recorded-recorded.ensures c.if-ended-spent.false in
-    omega (arith, (counted).0, (c).fits.allowance)
+    let counted : (c.loop-counts.steps < c.args.allowance) × (c.loop-counts.made < most_steps) = counted_on_lem _ c.loop-counts.invariant.0 c.is_recorded-recorded.result c.is_recorded-recorded.ensures c.if-ended-spent.false in
+    omega (arith, counted.0, c.ranges.allowance)
 
 pub loop-counts-smaller : goal.loop-counts-smaller
 loop-counts-smaller c =
-    let counted : (c.loop-counts.steps < (c).args.allowance) × (c.loop-counts.made < most_steps) = counted_on_lem _ c.loop-counts.invariant.0 c.is_recorded-recorded.result c.is_recorded-recorded.ensures c.if-ended-spent.false in
-    omega (arith, (counted).0)
+    let counted : (c.loop-counts.steps < c.args.allowance) × (c.loop-counts.made < most_steps) = counted_on_lem _ c.loop-counts.invariant.0 c.is_recorded-recorded.result c.is_recorded-recorded.ensures c.if-ended-spent.false in
+    omega (arith, counted.0)

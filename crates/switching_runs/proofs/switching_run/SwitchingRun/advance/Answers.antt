@@ -5,17 +5,19 @@ use Rattle.switching_runs.proofs.SwitchingLoop.{switching_kind, ready, by_plan, 
 use Rattle.portions.proofs.Loop.{came_refused}
 use native.Mathlib.Omega.{arith}
 use Rattle.timing.specs.Steps.{most_steps}
-use Prim.Native.Nat.{◌-◌, ◌<◌}
+use Prim.Native.Nat.{◌<◌}
 use mathlib.Core.Path.{sym, ◌∙◌}
 use Rattle.switching_runs.proofs.switching_run.SwitchingRun.advance.Goals as goal
 
 pub loop-counts-preserved : goal.loop-counts-preserved
 loop-counts-preserved c =
     let p = c.put_if_recorded-out.ensures in
-    goes _ c.loop-counts.invariant c.is_recorded-recorded.result c.is_recorded-recorded.ensures c.if-ended-spent.false _ c.switching_step-v.ensures _ p.0 _ p.1
+    goes _ c.loop-counts.invariant c.is_recorded-recorded.result c.is_recorded-recorded.ensures c.if-ended-spent.false _ c.switching_step-v.ensures _ p.answer _ p.memory
 
 pub returns-then-switching_run_refused : goal.returns-then-switching_run_refused
-returns-then-switching_run_refused c = returned (came_refused switching_stepper _ _ _ (sym c.switching_run_refused.ensures ∙ c.if-switching_run_refused.true))
+returns-then-switching_run_refused c =
+    let r = returned (came_refused switching_stepper _ _ _ (sym c.switching_run_refused.ensures ∙ c.if-switching_run_refused.true)) in
+    record { answer = r.0; memory = r.1 }
 
 pub nonzero_div-space : goal.nonzero_div-space
 nonzero_div-space c = omega (arith, c.record_length-size.ensures)
@@ -31,7 +33,8 @@ shape_of-records-then-ended-spent c = c.loop-counts.invariant.going.same_length
 
 pub returns-then-ended-spent : goal.returns-then-ended-spent
 returns-then-ended-spent c =
-    rw c.reason.ensures (returned (leaves _ c.loop-counts.invariant c.is_recorded-recorded.result c.is_recorded-recorded.ensures c.if-ended-spent.true))
+    let r = returned (leaves _ c.loop-counts.invariant c.is_recorded-recorded.result c.is_recorded-recorded.ensures c.if-ended-spent.true) in
+    record { answer = rw c.reason.ensures r.0; memory = r.1 }
 
 pub overflow_mul-size : goal.overflow_mul-size
 overflow_mul-size c =
