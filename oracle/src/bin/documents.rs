@@ -9,11 +9,35 @@ use std::{env, fs};
 
 const USAGE: &str = "documents REPOSITORY [FILE..]   looks up the names in docs/DEMANDS.md, or in the files";
 
-/// Below the crates: every word of a source, a definition or a proof, and every file's name with and without its ending.
+/// Below the crates: every word of a source, a definition or a proof but for comments, every file's name with and without its ending, and
+/// every path.
 #[derive(Default)]
 struct Known {
     words: BTreeSet<String>,
     files: BTreeSet<String>,
+    paths: BTreeSet<String>,
+}
+
+/// What a build or a check makes is no source.
+const MADE: [&str; 3] = ["target", "out", ".git"];
+
+/// Where a comment begins, by a source's ending.
+const COMMENTS: [(&str, &str); 5] = [(".rt", "//"), (".antt", "--"), (".rs", "//"), (".rs.txt", "//"), (".txt", "#")];
+
+/// The text of a source or a script, without its comments.
+fn code(path: &Path) -> Option<String> {
+    let name = path.to_string_lossy();
+    let by_ending = COMMENTS.iter().find(|(ending, _)| name.ends_with(ending));
+    if by_ending.is_none() && path.extension().is_some() {
+        return None;
+    }
+    let text = fs::read_to_string(path).ok()?;
+    let mark = by_ending.map_or("#", |(_, mark)| mark);
+    if by_ending.is_none() && !text.starts_with("#!") {
+        return None;
+    }
+    let lines = text.lines().map(|line| line.split_once(mark).map_or(line, |(code, _)| code));
+    Some(lines.collect::<Vec<_>>().join("\n"))
 }
 
 impl Known {
@@ -25,7 +49,7 @@ impl Known {
         for entry in entries.flatten() {
             let path = entry.path();
             let name = entry.file_name();
-            if !["target", ".git"].iter().any(|&skipped| name == skipped) {
+            if !MADE.iter().any(|&skipped| name == skipped) {
                 self.add(&path);
             }
         }
@@ -39,15 +63,20 @@ impl Known {
 
     fn add_file(&mut self, path: &Path) {
         self.add_name(path);
-        let is_source = ["rt", "antt", "rs", "txt"].iter().any(|&e| path.extension().is_some_and(|x| x == e));
-        if let (true, Ok(text)) = (is_source, fs::read_to_string(path)) {
+        self.paths.insert(path.to_string_lossy().into_owned());
+        if let Some(text) = code(path) {
             let words = text.split(|c: char| c.is_whitespace() || "(){}[]«»,;:.`\"⌜⌝&!<>|=+*".contains(c));
             self.words.extend(words.filter(|w| !w.is_empty()).map(str::to_string));
         }
     }
 
-    /// A path by its last part, a field or a method by its name, names in which a star stands for something by what is around it.
+    /// A file of a crate by its path or the end of it, another path by its last part, a field or a method by its name, names in which a star
+    /// stands for something by what is around it.
     fn has(&self, name: &str) -> bool {
+        if [".antt", ".rt"].iter().any(|ending| name.ends_with(ending)) {
+            let end = format!("/{name}");
+            return self.paths.iter().any(|path| path.ends_with(&end));
+        }
         let last = name.rsplit(['/', '.', ':']).find(|part| !part.is_empty());
         let last = last.unwrap_or(name).trim_end_matches("()").trim_start_matches(['&', '!']);
         let mut known = self.files.iter().chain(&self.words);
@@ -61,9 +90,10 @@ impl Known {
     }
 }
 
-/// What stands between backquotes, word by word.
+/// What stands between backquotes, word by word, but for commands of the kit and the lines that it prints.
 fn names(text: &str) -> Vec<String> {
-    let quoted = text.split('`').skip(1).step_by(2);
+    let of_kit = |q: &&str| q.starts_with("rt ") || q.starts_with("rt: ");
+    let quoted = text.split('`').skip(1).step_by(2).filter(|q| !of_kit(q));
     let words = quoted.flat_map(|q| q.split([' ', ',', ';', '(', ')', '=', '[', ']']));
     let named = |w: &&str| w.chars().any(char::is_alphabetic);
     words.filter(named).map(str::to_string).collect()
