@@ -1,0 +1,25 @@
+-- `put_case` meets its contract. Assumes nothing.
+use borrow.Author.Tests.{le-leb, lt-leb}
+use native.Mathlib.Omega.{arith}
+use mathlib.Core.Path.{refl}
+use Rattle.fault_cases.specs.Cases.{place_of}
+use Rattle.case_listing.specs.Listing.{row_for}
+use Rattle.case_rows.specs.Rows.{loss_in}
+use Rattle.case_rows.proofs.Written.{row_count, row_numbers}
+use Prim.Native.Nat.{◌+◌, ◌*◌, ◌<◌, ◌≤◌}
+use mathlib.Core.Path.{ap, ◌∙◌}
+use lib.ListN.{length}
+use lib.Seq.{sets}
+use Rattle.case_rows.proofs.rows.put_case.Goals as goal
+
+pub returns-then-rows-out : goal.returns-then-rows-out
+returns-then-rows-out c =
+    let short : length c.args.rows.now < 8 * c.args.out + 8 = omega (arith, c.if-rows-out.true) in
+    rw (lt-leb (8 * c.args.out + 8) (length c.args.rows.now) short) record { answer = refl; memory = refl }
+
+pub returns : goal.returns
+unfolding row_for
+returns c =
+    let q = c.put_row.ensures in
+    let room : 8 * c.args.out + 8 ≤ length c.args.rows.now = omega (arith, c.if-rows-out.false) in
+    rw (le-leb (8 * c.args.out + 8) (length c.args.rows.now) room) record { answer = q.0 ∙ rw (c.reasons_for-reasons.ensures, c.case_place-place.ensures) (row_count (place_of c.args.order c.args.k) _ c.args.outcome (loss_in c.args.flow (place_of c.args.order c.args.k).cable) (8 * c.args.out) (length c.args.rows.now) room); memory = q.1 ∙ rw (c.loss_of.ensures, c.reasons_for-reasons.ensures, c.case_place-place.ensures) (ap (sets c.args.rows.now (8 * c.args.out)) (row_numbers (place_of c.args.order c.args.k) _ c.args.outcome (loss_in c.args.flow (place_of c.args.order c.args.k).cable) (8 * c.args.out) (length c.args.rows.now) room)) }
