@@ -22,4 +22,4 @@ unfolding row_for
 returns c =
     let q = c.put_row.ensures in
     let room : 8 * c.args.out + 8 ≤ length c.args.rows.now = omega (arith, c.if-rows-out.false) in
-    rw (le-leb (8 * c.args.out + 8) (length c.args.rows.now) room) record { answer = q.0 ∙ rw (c.reasons_for-reasons.ensures, c.case_place-place.ensures) (row_count (place_of c.args.order c.args.k) _ c.args.outcome (loss_in c.args.flow (place_of c.args.order c.args.k).cable) (8 * c.args.out) (length c.args.rows.now) room); memory = q.1 ∙ rw (c.loss_of.ensures, c.reasons_for-reasons.ensures, c.case_place-place.ensures) (ap (sets c.args.rows.now (8 * c.args.out)) (row_numbers (place_of c.args.order c.args.k) _ c.args.outcome (loss_in c.args.flow (place_of c.args.order c.args.k).cable) (8 * c.args.out) (length c.args.rows.now) room)) }
+    rw (le-leb (8 * c.args.out + 8) (length c.args.rows.now) room) record { answer = q.answer ∙ rw (c.reasons_for-reasons.ensures, c.case_place-place.ensures) (row_count (place_of c.args.order c.args.k) _ c.args.outcome (loss_in c.args.flow (place_of c.args.order c.args.k).cable) (8 * c.args.out) (length c.args.rows.now) room); memory = q.memory ∙ rw (c.loss_of.ensures, c.reasons_for-reasons.ensures, c.case_place-place.ensures) (ap (sets c.args.rows.now (8 * c.args.out)) (row_numbers (place_of c.args.order c.args.k) _ c.args.outcome (loss_in c.args.flow (place_of c.args.order c.args.k).cable) (8 * c.args.out) (length c.args.rows.now) room)) }
