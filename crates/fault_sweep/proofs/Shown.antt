@@ -1,7 +1,7 @@
 -- A sweep's cases, as an advance makes them, are those of `portions`; and what is kept of them is what 000's runs have. Assumes nothing.
-use Prim.Native.Nat.{ℕ, zero, suc, ◌+◌, ◌≤◌}
+use Prim.Native.Nat.{ℕ, zero, suc}
 use native.Mathlib.Omega.{arith}
-use mathlib.Core.Path.{◌≡◌, refl, sym, ap, ◌∙◌}
+use mathlib.Core.Path.{◌≡◌, refl}
 use mathlib.Core.Bool.{Bool, true, false, not, ◌&&◌, cond}
 use mathlib.Core.Option.{none, some}
 use mathlib.Core.List.{List}
@@ -15,7 +15,7 @@ use Rattle.timing.specs.Steps.{steps_of}
 use Rattle.rules.specs.Studies.{sweep_refusal}
 use Rattle.rule_claims.proofs.Claims.{accepted_claims}
 use Rattle.power_flow.specs.declared.flow.DcGridSolution.{DcGridSolution}
-use Rattle.portions.specs.Cases.{Cases, row_of}
+use Rattle.portions.specs.Cases.{row_of}
 use Rattle.portions.specs.Demand3.{Sweeps}
 use Rattle.portions.proofs.Strides as strides
 use Rattle.case_reasons.specs.declared.reasons.CaseOutcome.{CaseOutcome}

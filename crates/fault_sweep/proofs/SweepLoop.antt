@@ -3,14 +3,14 @@ use Prim.Native.Nat.{ℕ, suc, ◌+◌, ◌-◌, ◌*◌, ◌/◌, ◌≤◌, �
 use native.Mathlib.Nat.{div-le_self, sub-zero}
 use native.Mathlib.Numerals.{add-one}
 use native.Mathlib.Omega.{arith}
-use mathlib.Core.Path.{◌≡◌, refl, sym, ap, ◌∙◌}
+use mathlib.Core.Path.{◌≡◌, refl, ap, ◌∙◌}
 use mathlib.Core.Bool.{Bool, true, false, not, cond, ◌&&◌, ◌||◌}
 use mathlib.Core.Option.{Option, none, some}
 use mathlib.Core.List.{List}
 use lib.Dec.{eqb, leb, ltb}
 use lib.ListN.{length}
 use lib.Seq.{sets}
-use borrow.Author.Tests.{eq-eqb, ne_eqb, eqb-true, leb-true, ltb-true, eqb-false, leb-false, ltb-false, not-false}
+use borrow.Author.Tests.{eq-eqb, ne_eqb, eqb-true, leb-true, ltb-true, leb-false, ltb-false, not-false}
 use Rattle.lists.proofs.Counting.{by-test, contrary}
 use Rattle.lists.proofs.Scanning.{left, right}
 use Rattle.grid.specs.declared.parts.SweepOrder.{SweepOrder}

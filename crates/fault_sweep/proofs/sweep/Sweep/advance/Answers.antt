@@ -3,7 +3,7 @@ use Rattle.fault_sweep.specs.Advance.{sweep_stepper}
 use Rattle.fault_sweep.proofs.SweepLoop.{some_left, inside, steps_allowed, in_space, room, more_rows, few_steps, leaves, closes, finishes, returned}
 use Rattle.portions.proofs.Loop.{came_refused}
 use native.Mathlib.Omega.{arith}
-use Prim.Native.Nat.{ℕ, ◌+◌, ◌-◌, ◌≤◌}
+use Prim.Native.Nat.{ℕ, ◌+◌, ◌≤◌}
 use mathlib.Core.Path.{◌≡◌, refl, sym, ◌∙◌, ap}
 use mathlib.Core.Bool.{cond}
 use mathlib.Core.List.{List}
@@ -16,7 +16,9 @@ with_room : (n len r x : ℕ) (m y rows : List ℕ) → n ≤ len → (r ≡ con
 with_room n len r x m y rows h e = (e.0 ∙ ap (λ t. cond t x 0) (le-leb n len h), e.1 ∙ ap (λ t. cond t y rows) (le-leb n len h))
 
 pub returns-then-is_broken : goal.returns-then-is_broken
-returns-then-is_broken c = returned (came_refused sweep_stepper _ _ _ (sym c.is_broken.ensures ∙ c.if-is_broken.true))
+returns-then-is_broken c =
+    let r = returned (came_refused sweep_stepper _ _ _ (sym c.is_broken.ensures ∙ c.if-is_broken.true)) in
+    record { answer = r.0; memory = r.1 }
 
 pub overflow_sub-closes : goal.overflow_sub-closes
 overflow_sub-closes c =
@@ -47,7 +49,7 @@ put_case-out-requires c = tt
 
 pub overflow_add-out : goal.overflow_add-out
 overflow_add-out c =
-    let put = with_room _ _ _ _ _ _ _ (room _ _ _ c.loop-k.invariant c.loop-k-test.true _ refl c.if-left-allowed.true) c.put_case-out.ensures in
+    let put = with_room _ _ _ _ _ _ _ (room _ _ _ c.loop-k.invariant c.loop-k-test.true _ refl c.if-left-allowed.true) (c.put_case-out.ensures.answer, c.put_case-out.ensures.memory) in
     omega (arith, more_rows _ _ _ c.loop-k.invariant c.loop-k-test.true _ refl c.if-left-allowed.true c.closed_outcome-outcome.result c.put_case-out.result put.0, c.well_formed.1.1.0)
 
 pub overflow_add-steps : goal.overflow_add-steps
@@ -62,7 +64,7 @@ loop-k-smaller c = omega (arith, c.loop-k-test.true)
 
 pub loop-k-preserved : goal.loop-k-preserved
 loop-k-preserved c =
-    let put = with_room _ _ _ _ _ _ _ (room _ _ _ c.loop-k.invariant c.loop-k-test.true _ refl c.if-left-allowed.true) c.put_case-out.ensures in
+    let put = with_room _ _ _ _ _ _ _ (room _ _ _ c.loop-k.invariant c.loop-k-test.true _ refl c.if-left-allowed.true) (c.put_case-out.ensures.answer, c.put_case-out.ensures.memory) in
     closes _ _ _ c.loop-k.invariant c.loop-k-test.true _ refl c.if-left-allowed.true c.ends_held-ends.result c.ends_held-ends.ensures c.closed_outcome-outcome.result c.closed_outcome-outcome.ensures c.put_case-out.result put.0 _ put.1 _ c.open_case-c.ensures
 
 pub steps_left_open-count-requires : goal.steps_left_open-count-requires
@@ -83,10 +85,13 @@ shape_of-rows-else-left-allowed c = c.loop-k.invariant.going.same_length
 
 pub returns-else-left-allowed : goal.returns-else-left-allowed
 returns-else-left-allowed c =
-    rw c.reason.ensures (returned (leaves _ _ _ c.loop-k.invariant c.loop-k-test.true _ refl c.if-left-allowed.false c.steps_left_open-count.result c.steps_left_open-count.ensures c.make_steps-c_end.result c.make_steps-c_end.ensures))
+    let r = returned (leaves _ _ _ c.loop-k.invariant c.loop-k-test.true _ refl c.if-left-allowed.false c.steps_left_open-count.result c.steps_left_open-count.ensures c.make_steps-c_end.result c.make_steps-c_end.ensures) in
+    record { answer = rw c.reason.ensures r.0; memory = r.1 }
 
 pub shape_of-rows : goal.shape_of-rows
 shape_of-rows c = c.loop-k.invariant.going.same_length
 
 pub returns : goal.returns
-returns c = returned (finishes _ _ _ c.loop-k.invariant c.loop-k-test.false)
+returns c =
+    let r = returned (finishes _ _ _ c.loop-k.invariant c.loop-k-test.false) in
+    record { answer = r.0; memory = r.1 }

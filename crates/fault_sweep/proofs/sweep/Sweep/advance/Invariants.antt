@@ -1,6 +1,6 @@
 -- `advance` meets its contract. Assumes nothing.
 use Rattle.fault_sweep.specs.KeptSweep.{kept_at}
-use Rattle.fault_sweep.proofs.SweepLoop.{Inside, closes}
+use Rattle.fault_sweep.proofs.SweepLoop.{Inside}
 use Prim.Native.Nat.{◌-◌}
 use Rattle.fault_sweep.proofs.sweep.Sweep.advance.Given as goal
 
