@@ -94,7 +94,7 @@ ends_are = (refl, refl, refl)
 site-is
     : site_of (plan 1) (window_by (plan 1) false 0 9) (kept false false false nought nought nought)
     ≡ record {
-      ground = outcome true true (double 0x3f86b31ae4ca542a) (double 0x3e58401987584b3d) (double 0x3f86b31ae4ca542a);
+      to_ground = outcome true true (double 0x3f86b31ae4ca542a) (double 0x3e58401987584b3d) (double 0x3f86b31ae4ca542a);
       pole = outcome true true (double 0x3f96b31ae4ca542a) (double 0x3e78401987584b3d) (double 0x3f96b31ae4ca542a);
       internal = outcome true true (double 0x3f8fc78c0d1b42a1) (double 0x3e67c3f00ee0c49c) (double 0x3f8fc78c0d1b42a1);
     }

@@ -66,7 +66,7 @@ of_type p type =
 unfoldable pub site_of : FaultPlan → Window → OpenCase → SiteEnds
 site_of p w c =
     record {
-      ground = end_by (of_type p PoleToGround) 0 w c;
+      to_ground = end_by (of_type p PoleToGround) 0 w c;
       pole = end_by (of_type p PoleToPole) 0 w c;
       internal = end_by (of_type p ConverterInternal) 0 w c;
     }

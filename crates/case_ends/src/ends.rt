@@ -15,7 +15,7 @@ use grid::DcSwitchingSimulator;
 // The outcomes of the three types of fault at a place.
 #[derive(Clone, Copy)]
 pub struct SiteEnds {
-    pub ground: CaseOutcome,
+    pub to_ground: CaseOutcome,
     pub pole: CaseOutcome,
     pub internal: CaseOutcome,
 }
@@ -49,14 +49,14 @@ pub fn site_ends(g: DcSwitchingSimulator, plan: FaultPlan, window: Window) -> Si
     let circuit = k.circuit;
     let sums = site_sums(circuit, k.dt_ms, window.from, window.to);
     let detected = is_detected_within(plan, 0, window.to, first_open_case(g));
-    let at_ground = sums.ground;
+    let at_ground = sums.to_ground;
     let at_pole = sums.pole;
     let at_internal = sums.internal;
     let ground = outcome_from(window, at_ground, 0.0, detected);
     let pole = outcome_from(window, at_pole, 0.0, detected);
     let internal = outcome_from(window, at_internal, 0.0, detected);
     SiteEnds {
-        ground,
+        to_ground: ground,
         pole,
         internal,
     }

@@ -26,7 +26,7 @@ peak : ℕ → CaseOutcome
 peak n = record { cleared = false; clearing_current_ka = nought; energy_mj = nought; peak_fault_ka = decimal n 1; detected = false }
 
 site : ℕ → SiteEnds
-site tenth = record { ground = peak (10 * tenth); pole = peak (10 * tenth + 1); internal = peak (10 * tenth + 2) }
+site tenth = record { to_ground = peak (10 * tenth); pole = peak (10 * tenth + 1); internal = peak (10 * tenth + 2) }
 
 -- of the second cable
 second : Bool → CableEnds

@@ -37,7 +37,7 @@ abbrev pub blank_outcome : CaseOutcome
 blank_outcome = record { cleared = false; clearing_current_ka = nought; energy_mj = nought; peak_fault_ka = nought; detected = false }
 
 abbrev pub blank_site : SiteEnds
-blank_site = record { ground = blank_outcome; pole = blank_outcome; internal = blank_outcome }
+blank_site = record { to_ground = blank_outcome; pole = blank_outcome; internal = blank_outcome }
 
 -- a tenth that an order tries
 abbrev pub tried : SweepOrder → ℕ → Bool
@@ -58,7 +58,7 @@ cable_of x cable = record { held = true; cable = cable; sites = tab 11 (site_at 
 
 -- of one type
 abbrev pub in_site : SiteEnds → ℕ → CaseOutcome
-in_site s zero = s.ground
+in_site s zero = s.to_ground
 in_site s (suc zero) = s.pole
 in_site s (suc (suc n)) = s.internal
 

@@ -116,7 +116,7 @@ fn blank_site() -> SiteEnds
         detected: false,
     };
     SiteEnds {
-        ground: none,
+        to_ground: none,
         pole: none,
         internal: none,
     }

@@ -38,7 +38,7 @@ pub fn closed_outcome(
 fn in_site(site: SiteEnds, fault_type: u64) -> CaseOutcome
     ensures { result ≡ in_site site fault_type }
 {
-    let ground = site.ground;
+    let ground = site.to_ground;
     let pole = site.pole;
     let internal = site.internal;
     match fault_type {

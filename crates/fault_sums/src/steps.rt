@@ -29,7 +29,7 @@ pub struct Sums {
 // Of the three types of fault at one place: from pole to ground, from pole to pole, inside the converter.
 #[derive(Clone, Copy)]
 pub struct SiteSums {
-    pub ground: Sums,
+    pub to_ground: Sums,
     pub pole: Sums,
     pub internal: Sums,
 }
@@ -52,7 +52,7 @@ pub fn fault_sums(circuit: FaultCircuit, dt_ms: f64, first: u64, end: u64, start
 
 // The same of the three types of fault at the place, from nothing on. Only the last factor of a current depends on the type, so what comes before it is worked out once.
 pub fn site_sums(circuit: FaultCircuit, dt_ms: f64, first: u64, end: u64) -> SiteSums
-    ensures { (result.ground ≡ sums_of (with_factor circuit ground_part) dt_ms first no_sums (end - first)) × (result.pole ≡ sums_of (with_factor circuit one) dt_ms first no_sums (end - first)) × (result.internal ≡ sums_of (with_factor circuit internal_part) dt_ms first no_sums (end - first)) }
+    ensures { (result.to_ground ≡ sums_of (with_factor circuit ground_part) dt_ms first no_sums (end - first)) × (result.pole ≡ sums_of (with_factor circuit one) dt_ms first no_sums (end - first)) × (result.internal ≡ sums_of (with_factor circuit internal_part) dt_ms first no_sums (end - first)) }
 {
     let r_ohm = circuit.r_fault_ohm + circuit.r_total_ohm;
     let none = Sums {
@@ -61,7 +61,7 @@ pub fn site_sums(circuit: FaultCircuit, dt_ms: f64, first: u64, end: u64) -> Sit
         current_ka: 0.0,
     };
     let mut s = SiteSums {
-        ground: none,
+        to_ground: none,
         pole: none,
         internal: none,
     };
@@ -115,13 +115,13 @@ fn block_times(dt_ms: f64, first: u64, n: usize) -> [f64; 16]
 // Folds the first n lanes of a block, for each of the three types.
 fn add_site_block(s: SiteSums, i: &[f64; 16], r_ohm: f64, dt_ms: f64, n: usize) -> SiteSums
     requires { n ≤ 16 }
-    ensures { (result.ground ≡ sums_from (λ j. of i.now j ⊗ ground_part) (dissipated dt_ms r_ohm) 0 s.ground n) × (result.pole ≡ sums_from (λ j. of i.now j ⊗ one) (dissipated dt_ms r_ohm) 0 s.pole n) × (result.internal ≡ sums_from (λ j. of i.now j ⊗ internal_part) (dissipated dt_ms r_ohm) 0 s.internal n) }
+    ensures { (result.to_ground ≡ sums_from (λ j. of i.now j ⊗ ground_part) (dissipated dt_ms r_ohm) 0 s.to_ground n) × (result.pole ≡ sums_from (λ j. of i.now j ⊗ one) (dissipated dt_ms r_ohm) 0 s.pole n) × (result.internal ≡ sums_from (λ j. of i.now j ⊗ internal_part) (dissipated dt_ms r_ohm) 0 s.internal n) }
 {
-    let ground = s.ground;
+    let ground = s.to_ground;
     let pole = s.pole;
     let internal = s.internal;
     SiteSums {
-        ground: add_block(ground, i, 0.5, r_ohm, dt_ms, n),
+        to_ground: add_block(ground, i, 0.5, r_ohm, dt_ms, n),
         pole: add_block(pole, i, 1.0, r_ohm, dt_ms, n),
         internal: add_block(internal, i, 0.7, r_ohm, dt_ms, n),
     }

@@ -15,7 +15,7 @@ returns c =
     let shown = c.is_detected_within-detected.ensures ∙ ap (λ (x : OpenCase). (plan_case_from c.args.plan 0 x (c.args.window.to - 0)).detected) c.first_open_case.ensures in
     λ i.
     record {
-      ground = site_way c.args.g c.args.plan c.args.window PoleToGround c.site_sums-sums.ensures.0 shown c.outcome_from-ground.ensures i;
+      to_ground = site_way c.args.g c.args.plan c.args.window PoleToGround c.site_sums-sums.ensures.0 shown c.outcome_from-ground.ensures i;
       pole = site_way c.args.g c.args.plan c.args.window PoleToPole c.site_sums-sums.ensures.1 shown c.outcome_from-pole.ensures i;
       internal = site_way c.args.g c.args.plan c.args.window ConverterInternal c.site_sums-sums.ensures.2 shown c.outcome_from-internal.ensures i;
     }

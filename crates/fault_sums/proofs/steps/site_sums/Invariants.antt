@@ -15,7 +15,7 @@ Leads c factor dt first end at s = sums_of (with_factor c factor) dt at s (end -
 
 abbrev pub invariant-loop-at : goal.invariant-loop-at
 invariant-loop-at l =
-    Leads l.circuit ground_part l.dt_ms l.first l.end l.at l.s.ground × Leads l.circuit one l.dt_ms l.first l.end l.at l.s.pole × Leads l.circuit internal_part l.dt_ms l.first l.end l.at l.s.internal
+    Leads l.circuit ground_part l.dt_ms l.first l.end l.at l.s.to_ground × Leads l.circuit one l.dt_ms l.first l.end l.at l.s.pole × Leads l.circuit internal_part l.dt_ms l.first l.end l.at l.s.internal
 
 abbrev pub decreases-loop-at : goal.decreases-loop-at
 decreases-loop-at l = l.end - l.at
