@@ -38,7 +38,7 @@ xc s = s.x_commutation_pu ⊗ base_impedance s
 abbrev pub lcc_voltage : ConverterStation → Float → Float
 lcc_voltage s i = vd0 s ⊗ cos_alpha_of s ⊖ (three ⊘ pi) ⊗ xc s ⊗ i
 
--- P = V-as-I
+-- P = V·I
 abbrev pub lcc_power : ConverterStation → Float → Float
 lcc_power s i = lcc_voltage s i ⊗ i
 
@@ -53,7 +53,7 @@ overlap s i = min_of (abs_of (cos_alpha_of s ⊖ overlap_cosine s i)) (pi ⊘ fo
 abbrev pub lcc_power_factor : ConverterStation → Float → Float
 lcc_power_factor s i = clamp_of (cos_alpha_of s ⊗ (one ⊖ overlap s i ⊘ two)) nought one
 
--- losses: 0.7 percent of the rated power, and I²-as-R
+-- losses: 0.7 percent of the rated power, and I²·R
 abbrev pub converter_resistance : ConverterStation → Float
 converter_resistance s = lcc_resistance ⊗ base_impedance s
 

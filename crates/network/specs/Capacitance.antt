@@ -17,7 +17,7 @@ use Rattle.network.specs.Constants.{six, frequency, million, least_microfarads}
 abbrev pub mmc_capacitance : Float → ℕ → Float
 mmc_capacitance c n = c ⊗ of_int binary64 (pos (submodules_of n)) ⊘ six
 
--- of every other converter: P/(V-as-V-314), from megawatts and kilovolts
+-- of every other converter: P/(V·V·314), from megawatts and kilovolts
 abbrev pub rated_capacitance : Float → Float → Float
 rated_capacitance v p = max_of p one ⊘ (max_of v one ⊗ max_of v one ⊗ frequency) ⊗ million
 

@@ -26,7 +26,7 @@ drain_current d v = v ⊗ kilo ⊘ d.resistance ⊗ d.fraction
 abbrev pub drained : Drain → List Float → ℕ → Float → Float
 drained d y i s = cond (eqb d.from i || eqb d.to i) (s ⊖ drain_current d (of y i)) s
 
--- dI/dt = (V_from - V_to - R-as-I)/L, an end past the count cut to the last station
+-- dI/dt = (V_from - V_to - R·I)/L, an end past the count cut to the last station
 abbrev pub cable_rate : (ℕ → ℕ) → (ℕ → ℕ) → (ℕ → Float) → (ℕ → Float) → ℕ → List Float → ℕ → Float
 cable_rate from to r l n y k = (of y (cut n (from k)) ⊖ of y (cut n (to k)) ⊖ r k ⊗ of y (n + k)) ⊘ l k
 
