@@ -1,5 +1,6 @@
 // Numbers in and out, one to a line: right-justified in 21 columns after spaces, then a line feed. Once the reading has ended, with
-// the input or at a number that there may not be, nothing more is read, every number is 0, and nothing more is answered.
+// the input, at a number that there may not be or where answers cannot be written, nothing more is read, every number is 0, and
+// nothing more is answered.
 ghost use Rattle.std.specs.Prelude.{◌≤◌};
 
 use std::io::{Read, Stdin, Stdout};
@@ -266,7 +267,10 @@ pub fn append(answers: &mut [u8; ROOM], c: Cursor, n: u64) -> Cursor {
     if c.ended {
         return c;
     }
-    let filled = room_at(c.output, answers, c.filled);
+    if !make_room(answers, c) {
+        return close(c);
+    }
+    let filled = room_at(c.filled);
     put(answers, filled, n);
     Cursor {
         at: c.at,
@@ -277,15 +281,30 @@ pub fn append(answers: &mut [u8; ROOM], c: Cursor, n: u64) -> Cursor {
     }
 }
 
+// Writes the answers out where there is no room left behind them, and answers whether it could.
+fn make_room(answers: &[u8; ROOM], c: Cursor) -> bool {
+    if c.filled <= LAST {
+        return true;
+    }
+    write(c.output, answers)
+}
+
 // Where the next answer goes: behind the others, or first where there is no room left; the others are then written out.
-fn room_at(output: Stdout, answers: &[u8; ROOM], filled: usize) -> usize
+fn room_at(filled: usize) -> usize
     ensures { result ≤ LAST }
 {
-    if filled <= LAST {
-        return filled;
+    if filled <= LAST { filled } else { 0 }
+}
+
+// Nothing more is read, and nothing is left to be written.
+fn close(c: Cursor) -> Cursor {
+    Cursor {
+        at: c.at,
+        filled: 0,
+        ended: true,
+        input: c.input,
+        output: c.output,
     }
-    write(output, answers);
-    0
 }
 
 // The numbers from the first one on, up to the end or as far as there are any.
@@ -343,9 +362,9 @@ pub fn write_rest(answers: &[u8; ROOM], c: Cursor) {
     }
 }
 
-// Once the reader has gone, nothing can be written, and that is no failure.
-fn write(output: Stdout, bytes: &[u8]) {
-    let _ = Print::write_all(&output, bytes);
+// Answers whether the bytes could be written: once the reader has gone, nothing can.
+fn write(output: Stdout, bytes: &[u8]) -> bool {
+    Print::write_all(&output, bytes).is_ok()
 }
 
 // The line of n.

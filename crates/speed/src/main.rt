@@ -24,7 +24,7 @@ fn main(rt: HostRuntime) {
     }
 }
 
-// Reads a request and answers it: so many are then left, or none where the input has ended.
+// Reads a request and answers it: so many are then left, or none where the input has ended or the answer cannot be written.
 fn after_one(rt: &(impl Input + Print), left: u64) -> u64
     ensures { result ≤ left }
 {
@@ -32,7 +32,9 @@ fn after_one(rt: &(impl Input + Print), left: u64) -> u64
     if request.ended {
         return 0;
     }
-    requests::write(rt, answer(request));
+    if !requests::write(rt, answer(request)) {
+        return 0;
+    }
     left
 }
 

@@ -86,7 +86,8 @@ fn wide(b: u8) -> u64 {
     b as u64
 }
 
-pub fn write(rt: &impl Print, x: f64) {
+// Answers whether it could be written: once the reader has gone, nothing can.
+pub fn write(rt: &impl Print, x: f64) -> bool {
     let bits = float64::to_bits(x);
-    let _ = println!(rt; "{bits}");
+    println!(rt; "{bits}").is_ok()
 }
