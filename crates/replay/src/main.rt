@@ -63,10 +63,10 @@ fn answer_other(job: u64, lines: &mut [u8; ROOM], answers: &mut [u8; ROOM], c: C
 // A loop has to end, and no input has more jobs than this.
 const JOBS: u64 = u64::MAX;
 
-fn main() {
+fn main(rt: HostRuntime) {
     let mut lines = [0u8; ROOM];
     let mut answers = [0u8; ROOM];
-    let mut c = numbers::start();
+    let mut c = numbers::start(rt.stdin(), rt.stdout());
     let mut left = JOBS;
     while left > 0 {
         c = answer(&mut lines, &mut answers, c);

@@ -1,8 +1,9 @@
 // Numbers in and out, one to a line: right-justified in 21 columns after spaces, then a line feed. Once the reading has ended, with
-// the input or at a number that there may not be, nothing more is read, every number is 0, and nothing more is answered.
+// the input, at a number that there may not be or where answers cannot be written, nothing more is read, every number is 0, and
+// nothing more is answered.
 ghost use Rattle.std.specs.Prelude.{◌≤◌};
 
-use libc::{STDIN_FILENO, STDOUT_FILENO};
+use std::io::{Read, Stdin, Stdout};
 
 const COLUMNS: usize = 21;
 // With the line feed.
@@ -16,12 +17,15 @@ const SPACE: u8 = 32;
 
 const LINE_FEED: u8 = 10;
 
-// Where the next number stands among the lines read, where the next answer goes, and whether the reading has ended.
+// Where the next number stands among the lines read, where the next answer goes, whether the reading has ended, and from where
+// lines are read and where answers are written.
 #[derive(Clone, Copy)]
 pub struct Cursor {
     at: usize,
     filled: usize,
     pub ended: bool,
+    input: Stdin,
+    output: Stdout,
 }
 
 // A number and the cursor past it.
@@ -51,11 +55,13 @@ struct Columns {
 }
 
 // Nothing is read yet, and nothing answered.
-pub fn start() -> Cursor {
+pub fn start(input: Stdin, output: Stdout) -> Cursor {
     Cursor {
         at: ROOM,
         filled: 0,
         ended: false,
+        input,
+        output,
     }
 }
 
@@ -65,6 +71,8 @@ pub fn ended_if(c: Cursor, is: bool) -> Cursor {
         at: c.at,
         filled: c.filled,
         ended: c.ended | is,
+        input: c.input,
+        output: c.output,
     }
 }
 
@@ -121,31 +129,49 @@ fn next(lines: &mut [u8; ROOM], c: Cursor) -> Taken {
     if c.ended {
         return Taken { number: 0, c };
     }
-    let at = line_at(lines, c.at);
-    number_at(lines, at, c.filled)
+    let at = line_at(c.input, lines, c.at);
+    number_at(lines, at, c)
 }
 
 // Where the line starts that stood at `at`, or that follows the lines read: these are then read anew.
-fn line_at(lines: &mut [u8; ROOM], at: usize) -> usize
+fn line_at(input: Stdin, lines: &mut [u8; ROOM], at: usize) -> usize
     ensures { result ≤ LAST }
 {
     if at <= LAST {
         return at;
     }
-    read_lines(lines);
+    read_lines(input, lines);
     0
 }
 
 // A zero marks where the input ends: no line has one, so what an earlier read left behind it is not taken again.
-fn read_lines(lines: &mut [u8; ROOM]) {
-    let end = io::read_full(STDIN_FILENO, lines);
+fn read_lines(input: Stdin, lines: &mut [u8; ROOM]) {
+    let end = read_full(input, lines);
     if end < ROOM {
         lines[end] = 0;
     }
 }
 
-// The number in the line that starts at `at`. A line of another form ends the reading.
-fn number_at(lines: &[u8; ROOM], at: usize, filled: usize) -> Taken
+// Reads until the lines are full, the input ends or a read fails, and answers how many bytes it put at their start.
+fn read_full(input: Stdin, lines: &mut [u8; ROOM]) -> usize
+    ensures { result ≤ ROOM }
+{
+    let mut from = input;
+    let mut done = 0;
+    while done < ROOM {
+        let Ok(n) = from.read(&mut lines[done..]) else {
+            return done;
+        };
+        if n == 0 {
+            return done;
+        }
+        done += n;
+    }
+    done
+}
+
+// The number in the line that starts at `at`, and the cursor `c` moved past it. A line of another form ends the reading.
+fn number_at(lines: &[u8; ROOM], at: usize, c: Cursor) -> Taken
     requires { at ≤ LAST }
 {
     let columns = columns_at(lines, at);
@@ -155,8 +181,10 @@ fn number_at(lines: &[u8; ROOM], at: usize, filled: usize) -> Taken
             number: columns.number,
             c: Cursor {
                 at: at + LINE,
-                filled,
+                filled: c.filled,
                 ended: false,
+                input: c.input,
+                output: c.output,
             },
         };
     }
@@ -164,8 +192,10 @@ fn number_at(lines: &[u8; ROOM], at: usize, filled: usize) -> Taken
         number: 0,
         c: Cursor {
             at,
-            filled,
+            filled: c.filled,
             ended: true,
+            input: c.input,
+            output: c.output,
         },
     }
 }
@@ -237,24 +267,44 @@ pub fn append(answers: &mut [u8; ROOM], c: Cursor, n: u64) -> Cursor {
     if c.ended {
         return c;
     }
-    let filled = room_at(answers, c.filled);
+    if !make_room(answers, c) {
+        return close(c);
+    }
+    let filled = room_at(c.filled);
     put(answers, filled, n);
     Cursor {
         at: c.at,
         filled: filled + LINE,
         ended: false,
+        input: c.input,
+        output: c.output,
     }
 }
 
+// Writes the answers out where there is no room left behind them, and answers whether it could.
+fn make_room(answers: &[u8; ROOM], c: Cursor) -> bool {
+    if c.filled <= LAST {
+        return true;
+    }
+    write(c.output, answers)
+}
+
 // Where the next answer goes: behind the others, or first where there is no room left; the others are then written out.
-fn room_at(answers: &[u8; ROOM], filled: usize) -> usize
+fn room_at(filled: usize) -> usize
     ensures { result ≤ LAST }
 {
-    if filled <= LAST {
-        return filled;
+    if filled <= LAST { filled } else { 0 }
+}
+
+// Nothing more is read, and nothing is left to be written.
+fn close(c: Cursor) -> Cursor {
+    Cursor {
+        at: c.at,
+        filled: 0,
+        ended: true,
+        input: c.input,
+        output: c.output,
     }
-    io::write_all(STDOUT_FILENO, answers);
-    0
 }
 
 // The numbers from the first one on, up to the end or as far as there are any.
@@ -308,8 +358,13 @@ pub fn write_rest(answers: &[u8; ROOM], c: Cursor) {
     let all: &[u8] = answers;
     let filled = c.filled;
     if filled <= all.len() {
-        io::write_all(STDOUT_FILENO, &all[..filled]);
+        write(c.output, &all[..filled]);
     }
+}
+
+// Answers whether the bytes could be written: once the reader has gone, nothing can.
+fn write(output: Stdout, bytes: &[u8]) -> bool {
+    Print::write_all(&output, bytes).is_ok()
 }
 
 // The line of n.

@@ -17,22 +17,24 @@ use requests::Request;
 // A loop has to end, and no input has more requests than this.
 const REQUESTS: u64 = u64::MAX;
 
-fn main() {
+fn main(rt: HostRuntime) {
     let mut left = REQUESTS;
     while 0 < left {
-        left = after_one(left - 1);
+        left = after_one(&rt, left - 1);
     }
 }
 
-// Reads a request and answers it: so many are then left, or none where the input has ended.
-fn after_one(left: u64) -> u64
+// Reads a request and answers it: so many are then left, or none where the input has ended or the answer cannot be written.
+fn after_one(rt: &(impl Input + Print), left: u64) -> u64
     ensures { result ≤ left }
 {
-    let request = requests::read();
+    let request = requests::read(rt);
     if request.ended {
         return 0;
     }
-    requests::write(answer(request));
+    if !requests::write(rt, answer(request)) {
+        return 0;
+    }
     left
 }
 

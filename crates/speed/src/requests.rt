@@ -3,7 +3,7 @@
 ghost use Rattle.std.specs.Prelude.{◌<◌};
 
 use crate::grids::Order;
-use libc::{STDIN_FILENO, STDOUT_FILENO};
+use std::io::Read;
 use std::num::wrapping_add_u64;
 
 const COLUMNS: usize = 21;
@@ -27,11 +27,11 @@ pub struct Request {
     pub order: Order,
 }
 
-pub fn read() -> Request {
+pub fn read(rt: &impl Input) -> Request {
     let mut lines = [0u8; ROOM];
-    let end = io::read_full(STDIN_FILENO, &mut lines);
+    let filled = rt.reader().read_exact(&mut lines);
     Request {
-        ended: end < ROOM,
+        ended: filled.is_err(),
         work: number_at(&lines, 0),
         count: number_at(&lines, 1),
         first: double_at(&lines, 2),
@@ -86,7 +86,8 @@ fn wide(b: u8) -> u64 {
     b as u64
 }
 
-pub fn write(x: f64) {
-    io::print_decimal(STDOUT_FILENO, float64::to_bits(x));
-    io::write_all(STDOUT_FILENO, b"\n");
+// Answers whether it could be written: once the reader has gone, nothing can.
+pub fn write(rt: &impl Print, x: f64) -> bool {
+    let bits = float64::to_bits(x);
+    println!(rt; "{bits}").is_ok()
 }

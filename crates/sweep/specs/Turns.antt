@@ -1,8 +1,11 @@
 -- How many bytes a read got. Assumes nothing.
-use Rattle.std.specs.Prelude.{ℕ, List}
-use Rattle.io.specs.Counts.{IsPrefixLen}
+use Rattle.std.specs.Prelude.{◌≡◌, ℕ, ◌≤◌, List, length, take}
 use Rattle.sweep.specs.declared.Turn.{Turn}
 use Rattle.sweep.specs.declared.Turn.TheVariants.{Got, End, Failed}
+
+-- So many bytes from the start are all in the buffer.
+abbrev pub IsPrefixLen : ℕ → List ℕ → Type 0
+IsPrefixLen n xs = (n ≤ length xs) × (n ≡ length (take n xs))
 
 abbrev pub Within : Turn → List ℕ → Type 0
 Within (Got n) buf = IsPrefixLen n buf

@@ -14,10 +14,10 @@ const MOST_STEPS: u64 = 1_000_000;
 const CASES_OF_CABLE: u64 = 33;
 
 // Prints the listing of a sheet, or by what it is refused. Of the rules a sheet does not show 10: it has no line.
-pub fn print_answer(answer: SheetAnswer) {
+pub fn print_answer(rt: &(impl Print + Eprint), answer: SheetAnswer) {
     let refusal = answer.refusal;
     if refusal.number != 0 {
-        print_refusal(refusal.number, refusal.line);
+        print_refusal(rt, refusal.number, refusal.line);
         return;
     }
     let grid = answer.grid;
@@ -26,11 +26,11 @@ pub fn print_answer(answer: SheetAnswer) {
     let verdict = started.verdict;
     let number = rules::number(verdict);
     if number != 0 {
-        print_refusal(number, 0);
+        print_refusal(rt, number, 0);
         return;
     }
     let s = started.sweep;
-    print_cases(s);
+    print_cases(rt, s);
 }
 
 // How many steps a call is allowed: those of all cases of a cable, which are worked out together.
@@ -63,7 +63,7 @@ fn advance(s: Sweep, allowance: u64, memory: &mut [u64; MEMORY]) -> AdvancedSwee
 }
 
 // Runs a sweep to its end, and prints each call's rows before the next.
-fn print_cases(start: Sweep) {
+fn print_cases(rt: &(impl Print + Eprint), start: Sweep) {
     let grid = start.grid;
     let order = start.order;
     let cases = case_count(grid, order);
@@ -80,16 +80,16 @@ fn print_cases(start: Sweep) {
         calls -= 1;
         let advanced = advance(s, allowance, &mut memory);
         steps = sum_of(steps, advanced.steps);
-        if !print_rows(&memory, advanced.rows) {
+        if !print_rows(rt, &memory, advanced.rows) {
             return;
         }
         s = advanced.sweep;
         if long {
-            said = say(said, s.case_number, cases);
+            said = say(rt, said, s.case_number, cases);
         }
         let stop = advanced.stop;
         if let Stop::Finished = stop {
-            print_end(cases, steps);
+            print_end(rt, cases, steps);
             return;
         }
     }

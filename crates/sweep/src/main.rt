@@ -8,7 +8,7 @@ mod listing;
 mod output;
 mod progress;
 
-use libc::STDIN_FILENO;
+use std::io::{ErrorKind, Read};
 
 // What one read came to.
 #[derive(Clone, Copy)]
@@ -19,41 +19,38 @@ pub enum Turn {
 }
 
 // Reads once. A call that a signal interrupts has got nothing, and is no failure.
-fn read_some(buffer: &mut [u8; 65536]) -> Turn
+fn read_some(rt: &(impl Input + Eprint), buffer: &mut [u8; 65536]) -> Turn
     ensures { Within result buffer.new }
 {
-    let got = libc::read(STDIN_FILENO, buffer);
-    if got == 0 {
-        return Turn::End;
-    }
-    if got < 0 {
-        if os::errno() == libc::EINTR {
-            return Turn::Got(0);
+    match rt.reader().read(buffer) {
+        Ok(0) => Turn::End,
+        Ok(n) => Turn::Got(n),
+        Err(e) if e.kind() == ErrorKind::Interrupted => Turn::Got(0),
+        Err(e) => {
+            let _ = eprintln!(rt; "standard input: {e}");
+            Turn::Failed
         }
-        os::fail(b"standard input");
-        return Turn::Failed;
     }
-    Turn::Got(io::count(got, buffer))
 }
 
 // Reads until the input ends, or nothing that follows can change the answer. An input that cannot be read is not answered.
-fn main() {
-    let mut buffer = io::large_buffer();
+fn main(rt: HostRuntime) {
+    let mut buffer = [0; 65536];
     let mut reading = sheet::start();
     // A loop has to end, and no input has more pieces than this.
     let mut turns = u64::MAX;
     while turns > 0 {
         turns -= 1;
-        let turn = read_some(&mut buffer);
+        let turn = read_some(&rt, &mut buffer);
         let Turn::Got(n) = turn else {
             if let Turn::End = turn {
-                listing::print_answer(sheet::answer(reading));
+                listing::print_answer(&rt, sheet::answer(reading));
             }
             return;
         };
         reading = sheet::feed(reading, &buffer[..n]);
         if sheet::stopped(reading) {
-            listing::print_answer(sheet::answer(reading));
+            listing::print_answer(&rt, sheet::answer(reading));
             return;
         }
     }

@@ -1,7 +1,6 @@
 // The lines of the listing on standard output. Each answers whether it could be written: once the reader has gone, nothing can.
 ghost use Rattle.std.specs.Prelude.{◌≤◌};
 
-use libc::STDOUT_FILENO;
 use listing_text::{end_text, refusal_text, row_text};
 
 const ROW_LENGTH: usize = 8;
@@ -26,7 +25,7 @@ fn row_at(memory: &[u64; MEMORY], at: usize) -> [u64; 8]
 }
 
 // The first rows of the memory, a line each.
-pub fn print_rows(memory: &[u64; MEMORY], rows: u64) -> bool {
+pub fn print_rows(rt: &impl Print, memory: &[u64; MEMORY], rows: u64) -> bool {
     let mut left = rows;
     let mut at = 0;
     while left > 0 {
@@ -34,7 +33,7 @@ pub fn print_rows(memory: &[u64; MEMORY], rows: u64) -> bool {
             return true;
         }
         let text = row_text(row_at(memory, at));
-        if !io::write_all(STDOUT_FILENO, &text) {
+        if rt.write_all(&text).is_err() {
             return false;
         }
         at += ROW_LENGTH;
@@ -44,13 +43,13 @@ pub fn print_rows(memory: &[u64; MEMORY], rows: u64) -> bool {
 }
 
 // The line of totals.
-pub fn print_end(cases: u64, steps: u64) -> bool {
+pub fn print_end(rt: &impl Print, cases: u64, steps: u64) -> bool {
     let text = end_text(cases, steps);
-    io::write_all(STDOUT_FILENO, &text)
+    rt.write_all(&text).is_ok()
 }
 
 // The line of a refusal.
-pub fn print_refusal(number: u64, line: u64) -> bool {
+pub fn print_refusal(rt: &impl Print, number: u64, line: u64) -> bool {
     let text = refusal_text(number, line);
-    io::write_all(STDOUT_FILENO, &text)
+    rt.write_all(&text).is_ok()
 }

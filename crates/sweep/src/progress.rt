@@ -1,6 +1,4 @@
 // How far a long sweep is, on standard error: a line when another hundredth of its cases is done.
-use libc::STDERR_FILENO;
-
 // A sweep of fewer steps in all says nothing.
 const LONG_SWEEP: u64 = 1_000_000;
 // No sweep has as many cases.
@@ -26,14 +24,11 @@ fn hundredths(done: u64, cases: u64) -> u64 {
 }
 
 // Prints a line if more hundredths are done than were said last, and answers how many are said now.
-pub fn say(said: u64, done: u64, cases: u64) -> u64 {
+pub fn say(rt: &impl Eprint, said: u64, done: u64, cases: u64) -> u64 {
     let now = hundredths(done, cases);
     if now <= said {
         return said;
     }
-    io::print_decimal(STDERR_FILENO, done);
-    io::write_all(STDERR_FILENO, b" of ");
-    io::print_decimal(STDERR_FILENO, cases);
-    io::write_all(STDERR_FILENO, b" cases\n");
+    let _ = eprintln!(rt; "{done} of {cases} cases");
     now
 }
