@@ -289,7 +289,7 @@ fn make_room(answers: &[u8; ROOM], c: Cursor) -> bool {
     write(c.output, answers)
 }
 
-// Where the next answer goes: behind the others, or first where there is no room left; the others are then written out.
+// Where the next answer goes: behind the others, or first where there is no room left; the others have then been written out.
 fn room_at(filled: usize) -> usize
     ensures { result ≤ LAST }
 {
