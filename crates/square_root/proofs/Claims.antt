@@ -16,7 +16,8 @@ use Rattle.float64.specs.Choice.{abs_of}
 use Rattle.square_root.specs.Constants.{sqrt2}
 use Rattle.square_root.specs.Root.{root_of, floor_root, nearest_root}
 use Rattle.square_root.specs.Claims.{least_squarable, RootClaims}
-use Rattle.square_root.proofs.RootNearest.{root_is, root_only, no_tie}
+use Rattle.square_root.proofs.RootNearest.{root_is, no_tie}
+use Rattle.square_root.proofs.RootOnly.{root_only}
 use Rattle.square_root.proofs.RootOfSquare.{root_same, above_finite}
 use Rattle.float64.proofs.SameValue.{same_value}
 

@@ -4,8 +4,10 @@ pub mod RootNumbers
 pub mod RootPlace
 -- the cases of a root, as the tests of `sqrt` find them
 pub mod RootCases
--- the root is the nearest double, and no other is
+-- the root is the nearest double
 pub mod RootNearest
+-- no other double is
+pub mod RootOnly
 -- how far `round` is from its fraction
 pub mod RoundError
 -- the root of a rounded square is the number again

