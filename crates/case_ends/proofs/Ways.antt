@@ -14,7 +14,7 @@ use Rattle.case_reasons.specs.declared.reasons.CaseOutcome.{CaseOutcome}
 use Rattle.case_steps.specs.declared.open_case.OpenCase.{OpenCase}
 use Rattle.case_steps.specs.OpenCases.{start_case, outcome_in}
 use Rattle.case_steps.specs.Plans.{plan_case_from}
-use Rattle.case_detection.proofs.TypeFactor.{type_free}
+use Rattle.case_detection.proofs.TypeFree.{type_free}
 use Rattle.case_ends.specs.Ends.{sums_at, outcome_from, end_by, of_type}
 
 module _ (p : FaultPlan) (first : ℕ) (w : Window) (c : OpenCase) where
