@@ -1,8 +1,8 @@
 -- S's reduction and S's and C's divisors as the code finds them. Assumes nothing.
 use mathlib.Core.Path.{◌≡◌}
 use mathlib.Core.Bool.{true, false}
-use Prim.Native.Nat.{ℕ, ◌+◌, ◌-◌, ◌*◌, ◌≤◌}
-use native.Mathlib.Nat.{mul_comm, mul-le-mul}
+use Prim.Native.Nat.{ℕ, ◌+◌, ◌-◌, ◌*◌}
+use native.Mathlib.Nat.{mul_comm}
 use native.Mathlib.Omega.{arith}
 use lib.Ieee.{Float, binary64, lt, sub, mul, div}
 use Rattle.float64.specs.Constants.{pi, turn}
@@ -17,12 +17,6 @@ module _ (t n : Float) (whole : n ≡ whole_part (div binary64 t turn)) where
   pub reduced_kept : lt pi (sub binary64 t (mul binary64 n turn)) ≡ false → sub binary64 t (mul binary64 n turn) ≡ reduced_angle t
   unfolding reduced_angle
   reduced_kept h = rw (← whole, h)
-
-pub divisor_small : (d : ℕ) → d ≤ 27 → d * (d - 1) ≤ 702
-divisor_small d h =
-    let p : d - 1 ≤ 26 = omega arith in
-    let q : d * (d - 1) ≤ 27 * 26 = mul-le-mul h p in
-    q
 
 -- the two divisors are the one that the code computes
 sine_at : (k : ℕ) → divisor 1 k ≡ sine_divisor k

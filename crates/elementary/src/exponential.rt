@@ -11,15 +11,11 @@ pub fn exp(t: f64) -> f64
     }
     let y = t / 1024.0;
     let mut p = 1.0;
-    let mut k: u64 = 18;
-    while 0 < k {
+    for k in (1..=18u64).rev() {
         p = 1.0 + (y * p) / (k as f64);
-        k -= 1;
     }
-    let mut j: u64 = 10;
-    while 0 < j {
+    for _turn in 0..10u64 {
         p = p * p;
-        j -= 1;
     }
     p
 }

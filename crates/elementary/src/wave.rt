@@ -38,11 +38,9 @@ fn series_of(x: f64, odd: u64) -> f64
     ensures { result ≡ series (divisor odd) 13 x one }
 {
     let mut q = 1.0;
-    let mut k: u64 = 13;
-    while 0 < k {
+    for k in (1..=13u64).rev() {
         let d = 2 * k + odd;
         q = 1.0 - (x * q) / ((d * (d - 1)) as f64);
-        k -= 1;
     }
     q
 }

@@ -26,7 +26,7 @@ lane_changed g d i h e = upto_more (λ j. g j (of d j)) d i h (e ∙ ap (g i) (r
 
 -- ---- a block of n lanes, all of them replaced
 
-replaced : (n : ℕ) (f : ℕ → Float) (d : List Float) → length d ≡ n → over n f nan d ≡ tab n f
+pub replaced : (n : ℕ) (f : ℕ → Float) (d : List Float) → length d ≡ n → over n f nan d ≡ tab n f
 unfolding over
 replaced n f d e = rw e (tab_same n (λ i. cond (ltb i n) (f i) (of d i)) f (λ k l. rw (lt-ltb k n l)))
 
@@ -43,9 +43,20 @@ lane_of n f j l e = rw e (get_d_tab n f nan j l)
 -- ---- turns that count down
 
 -- in lane j turn k makes f j k p of p, and g j k p is what all turns from k down make of it
-module _ (n : ℕ) (f g : ℕ → ℕ → Float → Float) (more : (j k : ℕ) (p : Float) → 0 < k → g j (k - 1) (f j k p) ≡ g j k p) (done : (j k : ℕ) (p : Float) → k ≤ 0 → g j k p ≡ p) where
+module _ (n : ℕ) (f g : ℕ → ℕ → Float → Float) (more : (j k : ℕ) (p : Float) → 0 < k → g j (k - 1) (f j k p) ≡ g j k p) (done : (j k : ℕ) (p : Float) → k < 1 → g j k p ≡ p) where
   pub turns_more : (k : ℕ) (p : List Float) {x : List Float} → 0 < k → x ≡ over n (λ j. f j k (of p j)) nan p → over n (λ j. g j (k - 1) (of x j)) nan x ≡ over n (λ j. g j k (of p j)) nan p
   turns_more k p h e = rw e (over-over n nan (λ j. g j (k - 1)) (λ j. f j k) p) ∙ over_same n nan _ _ p (λ j l. more j k (of p j) h)
 
-  pub turns_done : (k : ℕ) (p : List Float) → k ≤ 0 → p ≡ over n (λ j. g j k (of p j)) nan p
+  pub turns_done : (k : ℕ) (p : List Float) → k < 1 → p ≡ over n (λ j. g j k (of p j)) nan p
   turns_done k p h = upto_kept n _ nan p (λ j l. done j k (of p j) h) ∙ upto_over n _ nan p
+
+-- ---- turns that count up
+
+-- in lane j each turn makes f j p of p, and g j k p is what k turns make of it
+module _ (n : ℕ) (f : ℕ → Float → Float) (g : ℕ → ℕ → Float → Float) where
+  pub turns_none : ((j : ℕ) (p : Float) → g j 0 p ≡ p) → (p : List Float) → p ≡ over n (λ j. g j 0 (of p j)) nan p
+  turns_none none p = upto_kept n _ nan p (λ j l. none j (of p j)) ∙ upto_over n _ nan p
+
+  pub turn_added : ((j k : ℕ) (p : Float) → f j (g j k p) ≡ g j (k + 1) p)
+      → (k : ℕ) (p : List Float) {y x : List Float} → y ≡ over n (λ j. g j k (of p j)) nan p → x ≡ over n (λ j. f j (of y j)) nan y → x ≡ over n (λ j. g j (k + 1) (of p j)) nan p
+  turn_added more k p h e = rw (e, h) (over-over n nan f (λ j. g j k) p ∙ over_same n nan _ _ p (λ j l. more j k (of p j)))

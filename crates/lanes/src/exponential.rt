@@ -8,47 +8,44 @@ ghost use Rattle.float64.specs.Constants.{nought, one, k700, k1024};
 ghost use Rattle.float64.specs.Arithmetic.{◌⊕◌, ◌⊗◌, ◌⊘◌, of};
 ghost use Rattle.elementary.specs.Exponential.{term, terms, squared, E};
 
+use crate::LANES;
 use crate::squares::square_lanes;
 
 // f64::exp of each lane, whatever out held.
-pub fn exp_lanes(out: &mut [f64; 16], t: &[f64; 16])
-    ensures { out.new ≡ tab 16 (λ j. E (of t.now j)) }
+pub fn exp_lanes(out: &mut [f64; LANES], t: &[f64; LANES])
+    ensures { out.new ≡ tab LANES (λ j. E (of t.now j)) }
 {
-    let mut y = [0.0; 16];
+    let mut y = [0.0; LANES];
     divide_by_1024(&mut y, t);
-    *out = [1.0; 16];
+    *out = [1.0; LANES];
     add_terms(out, &y);
     square_ten_times(out);
     zero_below_700(out, t);
 }
 
 // y of E's definition: the argument scaled down, which the ten squarings undo.
-fn divide_by_1024(y: &mut [f64; 16], t: &[f64; 16])
-    ensures { y.new ≡ over 16 (λ j. of t.now j ⊘ k1024) nan y.old }
+fn divide_by_1024(y: &mut [f64; LANES], t: &[f64; LANES])
+    ensures { y.new ≡ over LANES (λ j. of t.now j ⊘ k1024) nan y.old }
 {
-    let mut j: usize = 0;
-    while j < 16 {
+    for j in 0..LANES {
         y[j] = t[j] / 1024.0;
-        j += 1;
     }
 }
 
 // The eighteen terms, k = 18 first.
-fn add_terms(p: &mut [f64; 16], y: &[f64; 16])
-    ensures { p.new ≡ over 16 (λ j. terms 18 (of y.now j) (of p.old j)) nan p.old }
+fn add_terms(p: &mut [f64; LANES], y: &[f64; LANES])
+    ensures { p.new ≡ over LANES (λ j. terms 18 (of y.now j) (of p.old j)) nan p.old }
 {
-    let mut k: u64 = 18;
-    while 0 < k {
+    for k in (1..=18u64).rev() {
         add_term(p, y, k);
-        k -= 1;
     }
 }
 
 // p becomes 1 + (y * p) / k. The powers of two are written out: a quotient by such a constant is compiled to a product, which is the same number
 // and takes less time.
-fn add_term(p: &mut [f64; 16], y: &[f64; 16], k: u64)
+fn add_term(p: &mut [f64; LANES], y: &[f64; LANES], k: u64)
     requires { k ≤ 18 }
-    ensures { p.new ≡ over 16 (λ j. term k (of y.now j) (of p.old j)) nan p.old }
+    ensures { p.new ≡ over LANES (λ j. term k (of y.now j) (of p.old j)) nan p.old }
 {
     match k {
         1 => add_quotients(p, y, 1.0),
@@ -61,35 +58,29 @@ fn add_term(p: &mut [f64; 16], y: &[f64; 16], k: u64)
 }
 
 // p becomes 1 + (y * p) / d.
-fn add_quotients(p: &mut [f64; 16], y: &[f64; 16], d: f64)
-    ensures { p.new ≡ over 16 (λ j. one ⊕ of y.now j ⊗ of p.old j ⊘ d) nan p.old }
+fn add_quotients(p: &mut [f64; LANES], y: &[f64; LANES], d: f64)
+    ensures { p.new ≡ over LANES (λ j. one ⊕ of y.now j ⊗ of p.old j ⊘ d) nan p.old }
 {
-    let mut j: usize = 0;
-    while j < 16 {
+    for j in 0..LANES {
         p[j] = 1.0 + (y[j] * p[j]) / d;
-        j += 1;
     }
 }
 
 // p becomes p to the power of 1,024.
-fn square_ten_times(p: &mut [f64; 16])
-    ensures { p.new ≡ over 16 (λ j. squared 10 (of p.old j)) nan p.old }
+fn square_ten_times(p: &mut [f64; LANES])
+    ensures { p.new ≡ over LANES (λ j. squared 10 (of p.old j)) nan p.old }
 {
-    let mut n: u64 = 10;
-    while 0 < n {
+    for _turn in 0..10u64 {
         square_lanes(p);
-        n -= 1;
     }
 }
 
 // E is 0 below -700. The test comes last: such a lane has been worked out with the others, and is dropped.
-fn zero_below_700(p: &mut [f64; 16], t: &[f64; 16])
-    ensures { p.new ≡ over 16 (λ j. cond (lt (of t.now j) (neg k700)) nought (of p.old j)) nan p.old }
+fn zero_below_700(p: &mut [f64; LANES], t: &[f64; LANES])
+    ensures { p.new ≡ over LANES (λ j. cond (lt (of t.now j) (neg k700)) nought (of p.old j)) nan p.old }
 {
-    let mut j: usize = 0;
-    while j < 16 {
+    for j in 0..LANES {
         p[j] = power_or_zero(t[j], p[j]);
-        j += 1;
     }
 }
 

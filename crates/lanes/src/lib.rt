@@ -7,3 +7,6 @@ mod wave;
 
 pub use exponential::exp_lanes;
 pub use wave::sin_lanes;
+
+// How many numbers are worked out at a time.
+pub const LANES: usize = 16;

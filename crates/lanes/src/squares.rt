@@ -4,13 +4,13 @@ ghost use Rattle.std.specs.Float.{nan};
 ghost use Rattle.lists.specs.Tables.{over};
 ghost use Rattle.float64.specs.Arithmetic.{◌⊗◌, of};
 
+use crate::LANES;
+
 // Each lane becomes its square.
-pub fn square_lanes(p: &mut [f64; 16])
-    ensures { p.new ≡ over 16 (λ j. of p.old j ⊗ of p.old j) nan p.old }
+pub fn square_lanes(p: &mut [f64; LANES])
+    ensures { p.new ≡ over LANES (λ j. of p.old j ⊗ of p.old j) nan p.old }
 {
-    let mut j: usize = 0;
-    while j < 16 {
+    for j in 0..LANES {
         p[j] = p[j] * p[j];
-        j += 1;
     }
 }

@@ -1,19 +1,16 @@
 -- Whole numbers under a root: its digits, its rounding, its scale. Assumes nothing.
-use mathlib.Core.Path.{◌≡◌, refl, sym, ap, ◌∙◌, subst}
-use mathlib.Core.Bool.{Bool, true, false, cond}
+use mathlib.Core.Path.{◌≡◌, sym, ap, ◌∙◌}
 use Prim.Native.Nat.{ℕ, zero, suc, ◌+◌, ◌-◌, ◌*◌, ◌/◌, ◌%◌, ◌^◌, ◌≤◌, ◌<◌}
-use native.Mathlib.Nat.{mul-le-mul_right, mul-lt-mul_of_pos_right, lt_of_lt_of_le, lt_of_le_of_lt, le_trans, le_of_eq, lt_of_not-le, not-le_of_lt, lt_irrefl, mul-le-mul, mul-le-mul_left, mul-one, mul_comm, mul_assoc, two-mul}
+use native.Mathlib.Nat.{mul-le-mul_right, mul-lt-mul_of_pos_right, lt_of_lt_of_le, lt_of_le_of_lt, le_trans, le_of_eq, lt_of_not-le, not-le_of_lt, lt_irrefl, mul-le-mul, mul-le-mul_left, mul-one, mul_comm, mul_assoc, two-mul, mod-eq_of_lt}
 use native.Mathlib.Omega.{arith}
-use borrow.Author.Tests.{leb-true, leb-false}
-use lib.Dec.{leb, lit≤}
-use lib.Pow.{pow-add, pow_pos, shr-shr}
-use Rattle.square_root.specs.RootDigits.{FloorOf, NearestWhole, Placed}
+use lib.Dec.{lit≤}
+use lib.Count.{count_leading_zeros}
+use lib.Pow.{pow-add, pow_pos, pow_mono, shr-shr}
+use Rattle.std.proofs.lemmas.Nat.{leading_top}
+use Rattle.square_root.specs.RootDigits.{NearestWhole, Placed, Shifted}
 
 pub sq_lt : (r : ℕ) → r * r < 2 ^ 106 → r < 2 ^ 53
 sq_lt r h = lt_of_not-le (λ (g : 2 ^ 53 ≤ r). not-le_of_lt h (mul-le-mul g g))
-
-pub le_scaled : (n k : ℕ) → n ≤ n * 2 ^ k
-le_scaled n k = le_trans (le_of_eq (sym (mul-one n))) (mul-le-mul_left n (pow_pos k))
 
 double : (k : ℕ) → 0 < k → 2 * (k - 1) + 2 ≡ 2 * k
 double k h = omega arith
@@ -23,19 +20,18 @@ digit m k h =
     let e : m / 2 ^ (2 * (k - 1)) / 4 ≡ m / 2 ^ (2 * k) = shr-shr m (2 * (k - 1)) 2 ∙ ap (λ (z : ℕ). m / 2 ^ z) (double k h) in
     omega arith
 
-pub scale : (n r j : ℕ) → 0 < j → n ≡ 4 * r + 0 → n * 2 ^ (2 * (j - 1)) ≡ r * 2 ^ (2 * j)
-scale n r j h e =
-    let p : 2 ^ (2 * j) ≡ 2 ^ (2 * (j - 1)) * 4 = ap (λ (z : ℕ). 2 ^ z) (sym (double j h)) ∙ pow-add 2 (2 * (j - 1)) 2 in
-    let q : n ≡ r * 4 = omega arith in
-    ap (λ (z : ℕ). z * 2 ^ (2 * (j - 1))) q ∙ mul_assoc r 4 (2 ^ (2 * (j - 1))) ∙ ap (λ (z : ℕ). r * z) (mul_comm 4 (2 ^ (2 * (j - 1))) ∙ sym p)
+pub quadrupled : (m t : ℕ) → m * 2 ^ (2 * (t + 1)) ≡ 4 * (m * 2 ^ (2 * t))
+quadrupled m t =
+    let e : 2 * (t + 1) ≡ 2 * t + 2 = omega arith in
+    let p : 2 ^ (2 * (t + 1)) ≡ 2 ^ (2 * t) * 4 = ap (λ (z : ℕ). 2 ^ z) e ∙ pow-add 2 (2 * t) 2 in
+    ap (λ (z : ℕ). m * z) p ∙ omega arith
 
-pub at_zero : (m k : ℕ) → k ≤ 0 → m / 2 ^ (2 * k) ≡ m
-at_zero m zero h = omega arith
-at_zero m (suc k) h = omega arith
-
-pub at_zero' : (n k : ℕ) → k ≤ 0 → n * 2 ^ (2 * k) ≡ n
-at_zero' n zero h = omega arith
-at_zero' n (suc k) h = omega arith
+-- before its 26 zeros are brought down a radicand of 54 digits has a root below 2 ^ 53
+pub short_root : (m t r e : ℕ) → m < 2 ^ 54 → t < 26 → r * r + e ≡ m * 2 ^ (2 * t) → r < 2 ^ 53
+short_root m t r e h l s =
+    let p : 2 ^ (2 * t) ≤ 2 ^ 52 = pow_mono (let q : 2 * t ≤ 52 = omega arith in q) in
+    let b : m * 2 ^ (2 * t) ≤ m * 2 ^ 52 = mul-le-mul_left m p in
+    sq_lt r (omega arith)
 
 pub square_le : (a b : ℕ) → a ≤ b → a * a ≤ b * b
 square_le a b h = mul-le-mul h h
@@ -98,44 +94,22 @@ lift m k W q j e lo hi d n =
     to : (m k W P : ℕ) → m * W ≡ k * P → k * P < 2 ^ 54 * P → m * 2 ^ 52 * W < 2 ^ 106 * P
     to m k W P e u = omega arith
 
--- ---- a subnormal significand is doubled until it has 53 digits
-pub places : (w m : ℕ) → 2 ^ (1022 - w) ≤ m → m < 2 ^ 52 → 0 < w
-places zero m h k = absurd (not-le_of_lt k (le_trans (lit≤ tt) h))
-places (suc w) m h k = omega arith
+-- ---- a subnormal significand is shifted until it has 53 digits
 
-pub doubled : (m w n : ℕ) → 0 < w → m * 2 ^ w ≡ n → m * 2 * 2 ^ (w - 1) ≡ n
-doubled m w n h e =
-    let d : w - 1 + 1 ≡ w = omega arith in
-    let p : 2 ^ w ≡ 2 ^ (w - 1) * 2 = ap (λ (z : ℕ). 2 ^ z) (sym d) ∙ pow-add 2 (w - 1) 1 in
-    mul_assoc m 2 (2 ^ (w - 1)) ∙ ap (λ (z : ℕ). m * z) (mul_comm 2 (2 ^ (w - 1)) ∙ sym p) ∙ e
+-- its highest digit is at the place j, of which a double's 64 bits have z above
+highest : (f j z : ℕ) → z + suc j ≡ 64 → 2 ^ j ≤ f → f < 2 ^ suc j → f < 2 ^ 52 → (11 ≤ z) × Shifted f (f * 2 ^ (z - 11) % 2 ^ 64) (1022 - (z - 11))
+highest f j z e lo hi h =
+    let l : j < 52 = lt_of_not-le (λ (g : 52 ≤ j). not-le_of_lt h (le_trans (pow_mono g) lo)) in
+    let s : ℕ = z - 11 in
+    let P : ℕ = 2 ^ s in
+    let a : j + s ≡ 52 = omega arith in
+    let b : suc j + s ≡ 53 = omega arith in
+    let lo' : 2 ^ 52 ≤ f * P = le_trans (le_of_eq (sym (ap (λ (z : ℕ). 2 ^ z) a) ∙ pow-add 2 j s)) (mul-le-mul_right P lo) in
+    let hi' : f * P < 2 ^ 53 = lt_of_lt_of_le (mul-lt-mul_of_pos_right hi (pow_pos s)) (le_of_eq (sym (pow-add 2 (suc j) s) ∙ ap (λ (z : ℕ). 2 ^ z) b)) in
+    let c : s + (1022 - s) ≡ 1022 = omega arith in
+    (omega arith, rw (mod-eq_of_lt (lt_of_lt_of_le hi' (lit≤ tt))) (record { long = (lo', hi'); same = mul_assoc f P (2 ^ (1022 - s)) ∙ ap (λ (z : ℕ). f * z) (sym (pow-add 2 s (1022 - s)) ∙ ap (λ (z : ℕ). 2 ^ z) c); most = omega arith }))
 
-pub more_places : (w m : ℕ) → 0 < w → w ≤ 1022 → 2 ^ (1022 - w) ≤ m → 2 ^ (1022 - (w - 1)) ≤ m * 2
-more_places w m h k l =
-    let d : 1022 - (w - 1) ≡ 1022 - w + 1 = omega arith in
-    subst (λ (z : ℕ). 2 ^ z ≤ m * 2) (sym d) (le_trans (le_of_eq (pow-add 2 (1022 - w) 1)) (mul-le-mul_right 2 l))
-
--- ---- one digit more
--- a is the root so far and b what is left; the digit is 1, and takes 4 a + 1, where b has as much
-module _ (a b two : ℕ) (small : b ≤ 2 * a) (less : two < 4) where
-  by_digit : (t : Bool) → leb (a * 4 + 1) (b * 4 + two) ≡ t → FloorOf (4 * (a * a + b) + two) (a * 2 + cond t 1 0) (b * 4 + two - cond t (a * 4 + 1) 0)
-  by_digit true e = let h = leb-true (a * 4 + 1) (b * 4 + two) e in record { split = omega arith; small = omega arith }
-  by_digit false e = let h = leb-false (a * 4 + 1) (b * 4 + two) e in record { split = omega arith; small = omega arith }
-
-  pub digit_more : (d k : ℕ) → d ≡ cond (leb (a * 4 + 1) (b * 4 + two)) 1 0 → k ≡ cond (leb (a * 4 + 1) (b * 4 + two)) (a * 4 + 1) 0
-      → FloorOf (4 * (a * a + b) + two) (a * 2 + d) (b * 4 + two - k)
-  digit_more d k p q = rw (p, q) (by_digit (leb (a * 4 + 1) (b * 4 + two)) refl)
-
-pub most : (t rest v r m : ℕ) → r ≡ cond (leb t rest) v 0 → v ≤ m → r ≤ m
-most t rest v r m e h = by (leb t rest) e
-  where
-    by : (b : Bool) → r ≡ cond b v 0 → r ≤ m
-    by true e = le_trans (le_of_eq e) h
-    by false e = le_trans (le_of_eq e) (omega arith)
-
--- what is taken is there
-pub enough : (t rest r : ℕ) → r ≡ cond (leb t rest) t 0 → r ≤ rest
-enough t rest r e = by (leb t rest) refl e
-  where
-    by : (b : Bool) → leb t rest ≡ b → r ≡ cond b t 0 → r ≤ rest
-    by true f e = le_trans (le_of_eq e) (leb-true t rest f)
-    by false f e = le_trans (le_of_eq e) (omega arith)
+pub shifted : (f : ℕ) → 0 < f → f < 2 ^ 52 → (11 ≤ count_leading_zeros 64 f) × Shifted f (f * 2 ^ (count_leading_zeros 64 f - 11) % 2 ^ 64) (1022 - (count_leading_zeros 64 f - 11))
+shifted f p h =
+    let t = leading_top 64 f p (lt_of_lt_of_le h (lit≤ tt)) in
+    highest f t.0 (count_leading_zeros 64 f) t.1 t.2 t.3 h

@@ -4,6 +4,9 @@ ghost use Rattle.std.specs.Float.Ieee.Positive.{positive};
 ghost use Rattle.square_root.specs.Root.{root_of};
 ghost use Rattle.square_root.specs.RootDigits.{FloorOf, NearestWhole, RootPattern, Shifted};
 
+// 2^52: the first of a normal double's 53 digits, which its pattern leaves out.
+const HIDDEN_DIGIT: u64 = 0x10_0000_0000_0000;
+
 // f64::sqrt
 pub fn sqrt(x: f64) -> f64
     ensures { result ≡ root_of x }
@@ -29,13 +32,13 @@ fn root_of_positive(x: f64) -> f64
     ensures { result ≡ root_of x }
 {
     let b = f64::to_bits(x);
-    let e = b / 0x10_0000_0000_0000;
-    let f = b % 0x10_0000_0000_0000;
+    let e = b / HIDDEN_DIGIT;
+    let f = b % HIDDEN_DIGIT;
     if e == 0 {
         let n = normalised(f);
         f64::from_bits(root_pattern(n.digits, n.scale))
     } else {
-        f64::from_bits(root_pattern(f + 0x10_0000_0000_0000, e + 1021))
+        f64::from_bits(root_pattern(f + HIDDEN_DIGIT, e + 1021))
     }
 }
 
@@ -46,20 +49,15 @@ struct Normal {
     scale: u64,
 }
 
-// A subnormal's digits, shifted until there are 53.
+// A subnormal's digits, shifted until there are 53: 11 of a number's 64 are above those.
 fn normalised(f: u64) -> Normal
     requires { (0 < f) × (f < 2 ^ 52) }
     ensures { Shifted f result.digits result.scale }
 {
-    let mut m = f;
-    let mut w: u64 = 1022;
-    while m < 0x10_0000_0000_0000 {
-        m *= 2;
-        w -= 1;
-    }
+    let shift = f.leading_zeros() - 11;
     Normal {
-        digits: m,
-        scale: w,
+        digits: f << shift,
+        scale: 1022 - shift as u64,
     }
 }
 
@@ -69,9 +67,9 @@ fn root_pattern(m: u64, w: u64) -> u64
     ensures { RootPattern m w result }
 {
     if w % 2 == 0 {
-        (w / 2) * 0x10_0000_0000_0000 + nearest_root(m)
+        (w / 2) * HIDDEN_DIGIT + nearest_root(m)
     } else {
-        (w / 2) * 0x10_0000_0000_0000 + nearest_root(m * 2)
+        (w / 2) * HIDDEN_DIGIT + nearest_root(m * 2)
     }
 }
 
@@ -97,14 +95,10 @@ fn floor_root(m: u64) -> Floor
     ensures { FloorOf (m * 2 ^ 52) result.root result.rest }
 {
     let mut s = Floor { root: 0, rest: 0 };
-    let mut k: u64 = 27;
-    while 0 < k {
-        k -= 1;
+    for k in (0..27u64).rev() {
         s = next_digit(s, (m >> (2 * k)) % 4);
     }
-    let mut j: u64 = 26;
-    while 0 < j {
-        j -= 1;
+    for _turn in 0..26u64 {
         s = next_digit(s, 0);
     }
     s

@@ -4,9 +4,6 @@ use Rattle.elementary.specs.Wave.{C}
 use Rattle.elementary.proofs.Reduced.{cosine_divisor_lem}
 use Rattle.elementary.proofs.wave.cos.Goals as goal
 
-pub clamp-requires : goal.clamp-requires
-clamp-requires c = tt
-
 pub returns : goal.returns
 unfolding C
 returns c = c.clamp.ensures ∙ rw (c.series_of.ensures, cosine_divisor_lem)

@@ -2,9 +2,6 @@
 use Rattle.elementary.proofs.Reduced.{reduced_less, reduced_kept}
 use Rattle.elementary.proofs.wave.reduced_angle.Goals as goal
 
-pub whole_part-n-requires : goal.whole_part-n-requires
-whole_part-n-requires c = tt
-
 pub returns-then-r : goal.returns-then-r
 returns-then-r c = reduced_less _ _ c.whole_part-n.ensures c.if-r.true
 

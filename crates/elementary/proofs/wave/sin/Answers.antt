@@ -4,12 +4,6 @@ use Rattle.elementary.specs.Wave.{S}
 use Rattle.elementary.proofs.Reduced.{sine_divisor_lem}
 use Rattle.elementary.proofs.wave.sin.Goals as goal
 
-pub reduced_angle-r-requires : goal.reduced_angle-r-requires
-reduced_angle-r-requires c = tt
-
-pub clamp-requires : goal.clamp-requires
-clamp-requires c = tt
-
 pub returns : goal.returns
 unfolding S
 returns c = c.clamp.ensures ∙ rw (c.series_of.ensures, sine_divisor_lem, c.reduced_angle-r.ensures)

@@ -1,7 +1,5 @@
 -- `add_quotients` meets its contract. Assumes nothing.
 use mathlib.Core.Path.{refl}
-use Prim.Native.Nat.{◌-◌}
-use native.Mathlib.Omega.{arith}
 use Rattle.lists.proofs.Fills.{upto_none}
 use Rattle.float64.specs.Arithmetic.{of, ◌⊕◌, ◌⊗◌, ◌⊘◌}
 use Rattle.float64.specs.Constants.{one}
@@ -9,14 +7,14 @@ use Rattle.lanes.proofs.Lanes.{lanes_left, lane_changed}
 use Rattle.lanes.proofs.exponential.add_quotients.Goals as goal
 
 pub loop-j-init : goal.loop-j-init
-loop-j-init c = (omega arith, upto_none _ _)
+loop-j-init c = upto_none _ _
 
 pub loop-j-preserved : goal.loop-j-preserved
 loop-j-preserved c =
     let a = c.args in
-    (omega arith, lane_changed (λ n z. one ⊕ of a.y.now n ⊗ z ⊘ a.d) a.p.now c.loop-j.j c.loop-j.invariant.1 refl)
+    lane_changed (λ n z. one ⊕ of a.y.now n ⊗ z ⊘ a.d) a.p.now c.loop-j.j c.loop-j.invariant refl
 
 pub returns : goal.returns
 returns c =
     let a = c.args in
-    lanes_left 16 (λ n. one ⊕ of a.y.now n ⊗ of a.p.now n ⊘ a.d) a.p.now c.loop-j.invariant.0 c.loop-j-test.false c.loop-j.invariant.1
+    lanes_left 16 (λ n. one ⊕ of a.y.now n ⊗ of a.p.now n ⊘ a.d) a.p.now c.loop-j.auto.j-end c.loop-j-test.false c.loop-j.invariant

@@ -1,13 +1,6 @@
 -- `add_term` meets its contract: a power of two that is written out is the double of k. Assumes nothing.
-use Prim.Native.Nat.{◌≤◌, ◌^◌}
-use native.Mathlib.Omega.{arith}
-use lib.Ieee.{in_float, of_int, of_bits}
-use lib.Dec.{le→leb}
+use lib.Ieee.{of_int, of_bits}
 use Rattle.lanes.proofs.exponential.add_term.Goals as goal
-
-pub int_to_float-k : goal.int_to_float-k
-unfolding in_float
-int_to_float-k c = let h : c.args.k ≤ 2 ^ 53 = omega arith in le→leb _ _ h
 
 pub returns-in-1 : goal.returns-in-1
 unfolding of_int of_bits

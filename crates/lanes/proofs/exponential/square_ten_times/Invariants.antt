@@ -6,8 +6,5 @@ use Rattle.elementary.specs.Exponential.{squared}
 use Rattle.lists.specs.Tables.{over}
 use Rattle.lanes.proofs.exponential.square_ten_times.Given as goal
 
-abbrev pub invariant-loop-n : goal.invariant-loop-n
-invariant-loop-n l = over 16 (λ j. squared l.n (of l.p j)) nan l.p ≡ over 16 (λ j. squared l.initial.n (of l.initial.p j)) nan l.initial.p
-
-abbrev pub decreases-loop-n : goal.decreases-loop-n
-decreases-loop-n l = l.n
+abbrev pub invariant-loop-turn : goal.invariant-loop-turn
+invariant-loop-turn l = l.p ≡ over 16 (λ j. squared l._turn (of l.initial.p j)) nan l.initial.p

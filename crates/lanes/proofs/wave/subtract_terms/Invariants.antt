@@ -1,6 +1,5 @@
 -- `subtract_terms` meets its contract. Assumes nothing.
 use mathlib.Core.Path.{◌≡◌}
-use Prim.Native.Nat.{◌≤◌}
 use lib.Ieee.{nan}
 use Rattle.float64.specs.Arithmetic.{of}
 use Rattle.elementary.specs.Wave.{series, divisor}
@@ -9,7 +8,4 @@ use Rattle.lanes.proofs.wave.subtract_terms.Given as goal
 
 abbrev pub invariant-loop-k : goal.invariant-loop-k
 invariant-loop-k l =
-    (l.k ≤ 13) × (over 16 (λ j. series (divisor 1) l.k (of l.x j) (of l.q j)) nan l.q ≡ over 16 (λ j. series (divisor 1) l.initial.k (of l.x j) (of l.initial.q j)) nan l.initial.q)
-
-abbrev pub decreases-loop-k : goal.decreases-loop-k
-decreases-loop-k l = l.k
+    over 16 (λ j. series (divisor 1) l.k (of l.x j) (of l.q j)) nan l.q ≡ over 16 (λ j. series (divisor 1) 13 (of l.x j) (of l.initial.q j)) nan l.initial.q

@@ -22,6 +22,3 @@ returns-then-x-eq9218868437227405312 c = of_infinity _ (search rules) c.if-x-eq9
 pub root_of_positive-requires : goal.root_of_positive-requires
 root_of_positive-requires c =
     rest _ c.if-x.false c.if-x-2.false c.if-x-3.false c.if-x-eq9218868437227405312.false
-
-pub returns : goal.returns
-returns c = c.root_of_positive.ensures
