@@ -1,6 +1,6 @@
 -- The fastest time so far is never a NaN, whatever the breakers' times are: one comparison takes the smaller. Assumes nothing.
 use mathlib.Core.Path.{◌≡◌, sym, subst}
-use mathlib.Core.Bool.{true, false, not, cond, true≢false}
+use mathlib.Core.Bool.{true, not, cond, true≢false}
 use mathlib.Core.List.{List, [], ◌∷◌, foldl}
 use lib.Dec.{T}
 use lib.Ieee.Bits.{is_false}

@@ -33,19 +33,14 @@ pub fn fastest_breaker_clearing_ms(g: DcSwitchingSimulator) -> f64
     }
     // Taken out of the grid, so that no call copies the rest.
     let breakers = g.breakers;
-    // f64::MAX
-    let mut fastest = 1.7976931348623157e308;
-    let mut i = 0;
-    while i < n {
-        let b = breakers[i];
-        let breaker_type = b.breaker_type;
-        fastest = faster_of(fastest, breaker_clearing_time_ms(breaker_type));
-        i += 1;
+    let mut fastest = f64::MAX;
+    for b in &breakers[..n] {
+        fastest = faster_of(fastest, breaker_clearing_time_ms(b.breaker_type));
     }
     fastest
 }
 
-// f64::min, whose test for a NaN is not needed here: the first is none.
+// f64::min with one comparison in place of two, which is faster: the first is never a NaN.
 fn faster_of(fastest: f64, t: f64) -> f64
     ensures { result ≡ cond (lt t fastest) t fastest }
 {

@@ -1,6 +1,8 @@
 -- Worked examples of the definitions: they are believed, so a wrong clause need break no other proof. The answers were written by hand from document 01.
 use mathlib.Core.Path.{◌≡◌, refl}
-use mathlib.Core.Bool.{true, false}
+use mathlib.Core.Bool.{true}
+use Rattle.std.specs.Prelude.{Option, Some, None, is_some}
+use Rattle.std.specs.Option.{option_map, option_and_then}
 use Prim.Native.Nat.{ℕ}
 use lib.ListN.{replicate, get_or}
 use lib.Ieee.{nan, of_bits, of_int, round, neg, lt, le, eq, is_nan}
@@ -18,10 +20,10 @@ unfolding kept_time_step kept_duration real_in le lt eq of_int of_bits round neg
 kept_are = (refl, refl, refl, refl, refl, refl)
 
 -- a part of each kind put in
-one : DcSwitchingSimulator
-one = (with_breaker (with_cable (with_station (new_simulator (decimal 10 1) (decimal 100 1)) blank_station).grid blank_cable).grid blank_breaker).grid
+one : Option DcSwitchingSimulator
+one = option_and_then (λ g. with_breaker g blank_breaker) (option_and_then (λ g. with_cable g blank_cable) (with_station (new_simulator (decimal 10 1) (decimal 100 1)) blank_station))
 
-counts_are : (one.n_stations ≡ 1) × (one.n_cables ≡ 1) × (one.n_breakers ≡ 1)
+counts_are : (option_map (λ g. g.n_stations) one ≡ Some 1) × (option_map (λ g. g.n_cables) one ≡ Some 1) × (option_map (λ g. g.n_breakers) one ≡ Some 1)
 unfolding one new_simulator with_station with_cable with_breaker
 counts_are = (refl, refl, refl)
 
@@ -33,10 +35,12 @@ counted s c b = record { stations = replicate 32 blank_station; cables = replica
 seventh : DcCable
 seventh = record { id = 7; from_station = 0; to_station = 0; r_per_km = nought; l_per_km = nought; c_per_km = nought; length_km = nought }
 
-rooms_are : ((with_station (counted 31 0 0) blank_station).has_room ≡ true) × ((with_station (counted 32 0 0) blank_station).has_room ≡ false)
-    × ((with_cable (counted 0 63 0) blank_cable).has_room ≡ true) × ((with_cable (counted 0 64 0) blank_cable).has_room ≡ false)
-    × ((with_breaker (counted 0 0 31) blank_breaker).has_room ≡ true) × ((with_breaker (counted 0 0 32) blank_breaker).has_room ≡ false)
-    × ((with_station (counted 31 0 0) blank_station).grid.n_stations ≡ 32) × ((with_cable (counted 0 63 0) seventh).grid.n_cables ≡ 64) × ((with_breaker (counted 0 0 31) blank_breaker).grid.n_breakers ≡ 32)
-    × ((get_or (with_cable (counted 0 63 0) seventh).grid.cables 63 blank_cable).id ≡ 7)
+rooms_are : (is_some (with_station (counted 31 0 0) blank_station) ≡ true) × (with_station (counted 32 0 0) blank_station ≡ None)
+    × (is_some (with_cable (counted 0 63 0) blank_cable) ≡ true) × (with_cable (counted 0 64 0) blank_cable ≡ None)
+    × (is_some (with_breaker (counted 0 0 31) blank_breaker) ≡ true) × (with_breaker (counted 0 0 32) blank_breaker ≡ None)
+    × (option_map (λ g. g.n_stations) (with_station (counted 31 0 0) blank_station) ≡ Some 32)
+    × (option_map (λ g. g.n_cables) (with_cable (counted 0 63 0) seventh) ≡ Some 64)
+    × (option_map (λ g. g.n_breakers) (with_breaker (counted 0 0 31) blank_breaker) ≡ Some 32)
+    × (option_map (λ g. (get_or g.cables 63 blank_cable).id) (with_cable (counted 0 63 0) seventh) ≡ Some 7)
 unfolding counted seventh with_station with_cable with_breaker
 rooms_are = (refl, refl, refl, refl, refl, refl, refl, refl, refl, refl)

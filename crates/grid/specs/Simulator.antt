@@ -1,5 +1,5 @@
 -- A grid: what `new` makes, what a part more makes of it, and which parts it has. Definitions only.
-use Rattle.std.specs.Prelude.{ℕ, ◌+◌, min, true, false, cond, List, ltb, take, set, replicate, ◌≡◌, refl, Float}
+use Rattle.std.specs.Prelude.{ℕ, ◌+◌, min, cond, Option, Some, None, List, ltb, take, set, replicate, ◌≡◌, refl, Float}
 use Rattle.std.specs.Float.{binary64}
 use Rattle.std.specs.Float.Ieee.{of_bits, round}
 use Rattle.float64.specs.Constants.{nought, decimal}
@@ -10,7 +10,6 @@ use Rattle.grid.specs.declared.parts.ConverterStation.{ConverterStation}
 use Rattle.grid.specs.declared.parts.DcCable.{DcCable}
 use Rattle.grid.specs.declared.parts.DcBreaker.{DcBreaker}
 use Rattle.grid.specs.declared.simulator.DcSwitchingSimulator.{DcSwitchingSimulator}
-use Rattle.grid.specs.declared.simulator.Added.{Added}
 use Rattle.ranges.specs.Ranges as range
 use Rattle.ranges.specs.Ranges.{real_in}
 
@@ -92,18 +91,11 @@ without_parts dt duration =
 unfoldable pub new_simulator : Float → Float → DcSwitchingSimulator
 new_simulator dt duration = without_parts (kept_time_step dt) (kept_duration duration)
 
--- the answer where there is room, and where there is none: the grid as it was
-abbrev pub added : DcSwitchingSimulator → Added
-added g = record { grid = g; has_room = true }
-
-abbrev pub without_room : DcSwitchingSimulator → Added
-without_room g = record { grid = g; has_room = false }
-
--- a part put at the end, where there is room
-unfoldable pub with_station : DcSwitchingSimulator → ConverterStation → Added
+-- a part put at the end, where there is room for it
+unfoldable pub with_station : DcSwitchingSimulator → ConverterStation → Option DcSwitchingSimulator
 with_station g s =
     cond (ltb g.n_stations 32)
-    (added
+    (Some
     record {
       stations = set g.stations g.n_stations s;
       cables = g.cables;
@@ -114,12 +106,12 @@ with_station g s =
       dt_us = g.dt_us;
       duration_ms = g.duration_ms;
     })
-    (without_room g)
+    None
 
-unfoldable pub with_cable : DcSwitchingSimulator → DcCable → Added
+unfoldable pub with_cable : DcSwitchingSimulator → DcCable → Option DcSwitchingSimulator
 with_cable g c =
     cond (ltb g.n_cables 64)
-    (added
+    (Some
     record {
       stations = g.stations;
       cables = set g.cables g.n_cables c;
@@ -130,12 +122,12 @@ with_cable g c =
       dt_us = g.dt_us;
       duration_ms = g.duration_ms;
     })
-    (without_room g)
+    None
 
-unfoldable pub with_breaker : DcSwitchingSimulator → DcBreaker → Added
+unfoldable pub with_breaker : DcSwitchingSimulator → DcBreaker → Option DcSwitchingSimulator
 with_breaker g b =
     cond (ltb g.n_breakers 32)
-    (added
+    (Some
     record {
       stations = g.stations;
       cables = g.cables;
@@ -146,4 +138,4 @@ with_breaker g b =
       dt_us = g.dt_us;
       duration_ms = g.duration_ms;
     })
-    (without_room g)
+    None

@@ -15,9 +15,5 @@ pub fn cable_resistance(c: DcCable) -> f64
 pub fn cut_end(station: u64, n: usize) -> usize
     ensures { result ≡ cut n station }
 {
-    let k = station as usize;
-    if k < n {
-        return k;
-    }
-    if n == 0 { 0 } else { n - 1 }
+    (station as usize).min(n.saturating_sub(1))
 }

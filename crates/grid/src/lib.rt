@@ -11,6 +11,6 @@ pub use parts::{
     DcFaultType, SweepOrder, counted_submodules,
 };
 pub use simulator::{
-    Added, DcSwitchingSimulator, LEAST_DURATION_MS, LEAST_TIME_STEP_US, MOST_BREAKERS, MOST_CABLES,
+    DcSwitchingSimulator, LEAST_DURATION_MS, LEAST_TIME_STEP_US, MOST_BREAKERS, MOST_CABLES,
     MOST_STATIONS, present,
 };

@@ -129,5 +129,5 @@ pub struct SweepOrder {
 pub fn counted_submodules(n_submodules: u64) -> u64
     ensures { result ≡ submodules_of n_submodules }
 {
-    if n_submodules < 1 { 1 } else { n_submodules }
+    n_submodules.max(1)
 }

@@ -1,9 +1,11 @@
 // A grid with its time step and duration, by value.
-ghost use Rattle.std.specs.Prelude.{◌≡◌, min};
-ghost use Rattle.grid.specs.Simulator.{kept_time_step, kept_duration, new_simulator, with_station, with_cable, with_breaker};
+ghost use Rattle.std.specs.Prelude.{◌≡◌, min, cond};
+ghost use Rattle.float64.specs.Choice.{max_of};
+ghost use Rattle.ranges.specs.Ranges.{between};
+ghost use Rattle.grid.specs.Simulator.{new_simulator, with_station, with_cable, with_breaker};
 
 use crate::parts::{ConverterStation, ConverterTopology, DcBreaker, DcBreakerType, DcCable};
-use ranges::in_range;
+use ranges::{Range, in_range};
 
 // The most stations, cables and breakers that a grid has room for.
 pub const MOST_STATIONS: usize = 32;
@@ -32,14 +34,6 @@ pub struct DcSwitchingSimulator {
     pub dt_us: f64,
     // length of a run, ms
     pub duration_ms: f64,
-}
-
-// The grid with a part more, or the same grid where there is no room.
-#[derive(Clone, Copy)]
-pub struct Added {
-    pub grid: DcSwitchingSimulator,
-    // whether there was room for the part
-    pub has_room: bool,
 }
 
 impl DcSwitchingSimulator {
@@ -84,92 +78,68 @@ impl DcSwitchingSimulator {
             n_stations: 0,
             n_cables: 0,
             n_breakers: 0,
-            dt_us: kept_time_step(dt_us),
-            duration_ms: kept_duration(duration_ms),
+            dt_us: kept(dt_us, LEAST_TIME_STEP_US, ranges::DT_US),
+            duration_ms: kept(duration_ms, LEAST_DURATION_MS, ranges::DURATION_MS),
         }
     }
 
-    // DcSwitchingSimulator::add_station
-    pub fn add_station(self, station: ConverterStation) -> Added
+    // DcSwitchingSimulator::add_station. The three that add a part differ in the array and the count that they name: one body for all would be a trait with three.
+    pub fn add_station(self, station: ConverterStation) -> Option<Self>
         ensures { result ≡ with_station self station }
     {
         let mut grid = self;
         let stations = grid.n_stations;
-        if stations < MOST_STATIONS {
-            grid.stations[stations] = station;
-            grid.n_stations = stations + 1;
-            return Added {
-                grid,
-                has_room: true,
-            };
+        if MOST_STATIONS <= stations {
+            return None;
         }
-        Added {
-            grid,
-            has_room: false,
-        }
+        grid.stations[stations] = station;
+        grid.n_stations = stations + 1;
+        Some(grid)
     }
 
     // DcSwitchingSimulator::add_cable
-    pub fn add_cable(self, cable: DcCable) -> Added
+    pub fn add_cable(self, cable: DcCable) -> Option<Self>
         ensures { result ≡ with_cable self cable }
     {
         let mut grid = self;
         let cables = grid.n_cables;
-        if cables < MOST_CABLES {
-            grid.cables[cables] = cable;
-            grid.n_cables = cables + 1;
-            return Added {
-                grid,
-                has_room: true,
-            };
+        if MOST_CABLES <= cables {
+            return None;
         }
-        Added {
-            grid,
-            has_room: false,
-        }
+        grid.cables[cables] = cable;
+        grid.n_cables = cables + 1;
+        Some(grid)
     }
 
     // DcSwitchingSimulator::add_breaker
-    pub fn add_breaker(self, breaker: DcBreaker) -> Added
+    pub fn add_breaker(self, breaker: DcBreaker) -> Option<Self>
         ensures { result ≡ with_breaker self breaker }
     {
         let mut grid = self;
         let breakers = grid.n_breakers;
-        if breakers < MOST_BREAKERS {
-            grid.breakers[breakers] = breaker;
-            grid.n_breakers = breakers + 1;
-            return Added {
-                grid,
-                has_room: true,
-            };
+        if MOST_BREAKERS <= breakers {
+            return None;
         }
-        Added {
-            grid,
-            has_room: false,
-        }
+        grid.breakers[breakers] = breaker;
+        grid.n_breakers = breakers + 1;
+        Some(grid)
     }
 }
 
-// What `new` keeps: a time step in its range is raised, and another is left for rule 4 to refuse.
-fn kept_time_step(dt_us: f64) -> f64
-    ensures { result ≡ kept_time_step dt_us }
+// What `new` keeps of a time step and a duration: one in its range is raised, and another is left for rule 4 to refuse.
+fn kept(x: f64, least: f64, range: Range) -> f64
+    ensures { result ≡ cond (between range x) (max_of x least) x }
 {
-    let raised = float64::max(dt_us, LEAST_TIME_STEP_US);
-    let inside = in_range(ranges::DT_US, dt_us);
-    if inside { raised } else { dt_us }
-}
-
-fn kept_duration(duration_ms: f64) -> f64
-    ensures { result ≡ kept_duration duration_ms }
-{
-    let raised = float64::max(duration_ms, LEAST_DURATION_MS);
-    let inside = in_range(ranges::DURATION_MS, duration_ms);
-    if inside { raised } else { duration_ms }
+    if in_range(range, x) {
+        float64::max(x, least)
+    } else {
+        x
+    }
 }
 
 // How many elements of an array a count speaks of.
 pub fn present(count: usize, length: usize) -> usize
     ensures { result ≡ min count length }
 {
-    if count < length { count } else { length }
+    count.min(length)
 }

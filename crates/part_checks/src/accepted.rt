@@ -12,13 +12,11 @@ fn check_topology(topology: ConverterTopology) -> bool
     ensures { result ≡ topology_ok topology }
 {
     match topology {
-        ConverterTopology::Lcc => true,
-        ConverterTopology::TwoLevelVsc => true,
         ConverterTopology::Mmc { n_submodules } => whole_in_range(
             ranges::N_SUBMODULES,
             n_submodules,
         ),
-        ConverterTopology::Hybrid => true,
+        ConverterTopology::Lcc | ConverterTopology::TwoLevelVsc | ConverterTopology::Hybrid => true,
     }
 }
 
@@ -26,8 +24,7 @@ fn check_topology(topology: ConverterTopology) -> bool
 pub fn check_station(s: ConverterStation) -> bool
     ensures { result ≡ station_ok s }
 {
-    let topology = s.topology;
-    let t = check_topology(topology);
+    let t = check_topology(s.topology);
     let id = whole_in_range(ranges::STATION_ID, s.id);
     let kv = in_range(ranges::V_DC_RATED_KV, s.v_dc_rated_kv);
     let mw = in_range(ranges::P_RATED_MW, s.p_rated_mw);
@@ -83,8 +80,7 @@ fn check_breaker_type(breaker_type: DcBreakerType) -> bool
 pub fn check_breaker(b: DcBreaker) -> bool
     ensures { result ≡ breaker_ok b }
 {
-    let breaker_type = b.breaker_type;
-    let times = check_breaker_type(breaker_type);
+    let times = check_breaker_type(b.breaker_type);
     let id = whole_in_range(ranges::BREAKER_ID, b.id);
     let station = whole_in_range(ranges::BREAKER_STATION, b.station_id);
     let current = in_range(ranges::MAX_BREAKING_CURRENT_KA, b.max_breaking_current_ka);

@@ -1,5 +1,5 @@
 // Where the first part of a grid stands that has a field outside its range.
-ghost use Rattle.std.specs.Prelude.{◌≡◌};
+ghost use Rattle.std.specs.Prelude.{◌≡◌, Bool};
 ghost use Rattle.lists.specs.Scans.{passing};
 ghost use Rattle.part_checks.specs.PartChecks.{station_ok, cable_ok, breaker_ok};
 ghost use Rattle.grid.specs.Simulator.{stations_of, cables_of, breakers_of};
@@ -14,16 +14,7 @@ pub fn first_bad_station(g: DcSwitchingSimulator) -> usize
 {
     let n = present(g.n_stations, MOST_STATIONS);
     let stations = g.stations;
-    let mut i = 0;
-    while i < n {
-        let s = stations[i];
-        if check_station(s) {
-            i += 1;
-        } else {
-            return i;
-        }
-    }
-    n
+    first_bad(&stations[..n], |s| check_station(s))
 }
 
 // The position of the first cable that rule 7 refuses, or how many cables there are.
@@ -32,16 +23,7 @@ pub fn first_bad_cable(g: DcSwitchingSimulator) -> usize
 {
     let n = present(g.n_cables, MOST_CABLES);
     let cables = g.cables;
-    let mut i = 0;
-    while i < n {
-        let c = cables[i];
-        if check_cable(c) {
-            i += 1;
-        } else {
-            return i;
-        }
-    }
-    n
+    first_bad(&cables[..n], |c| check_cable(c))
 }
 
 // The position of the first breaker that rule 8 refuses, or how many breakers there are.
@@ -50,14 +32,19 @@ pub fn first_bad_breaker(g: DcSwitchingSimulator) -> usize
 {
     let n = present(g.n_breakers, MOST_BREAKERS);
     let breakers = g.breakers;
-    let mut i = 0;
-    while i < n {
-        let b = breakers[i];
-        if check_breaker(b) {
-            i += 1;
-        } else {
+    first_bad(&breakers[..n], |b| check_breaker(b))
+}
+
+// The position of the first part that is not accepted, or how many parts there are: what `passing` is of any test `ok` that answers
+// as `accepts` does.
+fn first_bad<T: Copy, F: Fn(T) -> bool>(parts: &[T], accepts: F) -> usize
+    requires { F.IsAlwaysCallable accepts }
+    ensures { (ok : _ → Bool) → ((x : _) (b : Bool) → F.post accepts x b → b ≡ ok x) → result ≡ passing ok parts.now }
+{
+    for (i, part) in parts.iter().enumerate() {
+        if !accepts(*part) {
             return i;
         }
     }
-    n
+    parts.len()
 }

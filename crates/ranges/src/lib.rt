@@ -4,7 +4,7 @@
 ghost use Rattle.std.specs.Prelude.{◌≡◌};
 ghost use Rattle.ranges.specs.Ranges.{between, whole_between};
 
-// The low end and the high end.
+// The low end and the high end, without names: with named fields each row of the table would take four lines.
 #[derive(Clone, Copy)]
 pub struct Range(f64, f64);
 
@@ -45,7 +45,8 @@ const RANGES: [Range; 33] = [
     Range(0.0, 65535.0), // N_SUBMODULES
 ];
 
-// Each field's row. It is read when a program is compiled, so that no call has the table to build.
+// Each field's row. It is read when a program is compiled, so that no call has the table to build. The rows go by number: an enum of
+// the fields would be a third list of the same names, and two rows swapped are refused where they are used.
 pub const V_DC_RATED_KV: Range = Range(RANGES[0].0, RANGES[0].1);
 
 pub const P_RATED_MW: Range = Range(RANGES[1].0, RANGES[1].1);

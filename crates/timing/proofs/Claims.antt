@@ -13,7 +13,7 @@ use Rattle.lists.proofs.Scanning.{or_second}
 use Rattle.timing.specs.Steps.{rounded_up, interval_of}
 use Rattle.timing.specs.Claims.{StepClaims}
 use Rattle.timing.proofs.Ceiling.{ceiling, ceiling_is, ceiling_reaches, ceiling_least}
-use Rattle.timing.proofs.Records.{interval_above, records_of_lem}
+use Rattle.timing.proofs.Records.{interval_above, some_records}
 
 up_is : (m : ℕ) (e : ℤ) → rounded_up (fin false m e) ≡ ceiling (m * up e) (down e)
 unfolding rounded_up
@@ -25,7 +25,7 @@ step_claims =
       reaches = λ m e. rw (up_is m e) (ceiling_reaches (m * up e) (down e) (down_pos e));
       least = λ m e n h. rw (up_is m e) (ceiling_least (m * up e) (down e) n (down_pos e) h);
       counted = λ n h. (let l = h.1 in omega arith);
-      records = λ n h. records_of_lem n h ∙ ap (λ (x : ℕ). 1 + x) (sym (ceiling_is (n - 1) (interval_of n) (interval_above n)));
+      records = λ n h. some_records n h ∙ ap (λ (x : ℕ). 1 + x) (sym (ceiling_is (n - 1) (interval_of n) (interval_above n)));
       first_recorded = λ n. (rw (zero-mod (interval_of n)));
       last_recorded = λ n. or_second (eqb ((n - 1) % interval_of n) 0) (eqb (n - 1) (n - 1)) (eq-eqb (n - 1) (n - 1) refl);
     }

@@ -1,7 +1,8 @@
 -- Worked examples of the definitions: they are believed, so a wrong clause need break no other proof. The answers were written by hand from document 01.
 use mathlib.Core.Path.{◌≡◌, refl}
 use mathlib.Core.Bool.{true, false}
-use Prim.Native.Nat.{◌-◌}
+use Rattle.std.specs.Prelude.{Option, Some}
+use Rattle.std.specs.Option.{option_map, option_and_then}
 use lib.ListN.{replicate}
 use lib.Ieee.{Float, nan, binary64, of_bits, of_int, round, neg, div, lt, le, eq, is_nan}
 use Rattle.float64.specs.Constants.{nought, decimal}
@@ -27,10 +28,10 @@ unfolding count_below
 intervals_are = (refl, refl, refl, refl, refl, refl, refl, refl)
 
 -- time and fault current; one station's two numbers, a cable, a breaker
-one : DcSwitchingSimulator
-one = (with_breaker (with_cable (with_station (new_simulator (decimal 10 1) (decimal 100 1)) blank_station).grid blank_cable).grid blank_breaker).grid
+one : Option DcSwitchingSimulator
+one = option_and_then (λ g. with_breaker g blank_breaker) (option_and_then (λ g. with_cable g blank_cable) (with_station (new_simulator (decimal 10 1) (decimal 100 1)) blank_station))
 
-lengths_are : record_length one ≡ 6
+lengths_are : option_map record_length one ≡ Some 6
 unfolding one new_simulator with_station with_cable with_breaker
 lengths_are = refl
 

@@ -1,11 +1,11 @@
 -- The steps of a run: a quotient rounded up by its whole part, counted to one past the limit. Assumes nothing.
-use Prim.Native.Nat.{ℕ, ◌+◌, ◌-◌, ◌*◌, ◌/◌, ◌%◌, ◌^◌, ◌≤◌, ◌<◌, max}
+use Prim.Native.Nat.{ℕ, ◌+◌, ◌*◌, ◌/◌, ◌%◌, ◌^◌, ◌≤◌, ◌<◌, max}
 use native.Mathlib.Nat.{mul-one, div-add-mod', div-le_of_le-mul, le_trans, le-div_iff_mul-le, mul_comm, mul-le-mul_right}
 use native.Mathlib.Omega.{arith}
 use mathlib.Core.Path.{◌≡◌, refl, sym, ◌∙◌}
 use mathlib.Core.Logic.{⊎_elim}
 use mathlib.Core.Bool.{Bool, true, false, not}
-use borrow.Author.Tests.{lt-ltb, le-ltb, ltb-true, ltb-false, eq-eqb, ne_eqb}
+use borrow.Author.Tests.{lt-ltb, le-ltb, ltb-true, ltb-false}
 use lib.Dec.{T, ltb, le→leb}
 use lib.IntN.{ℤ, pos}
 use lib.Ieee.{Float, nan, inf, fin, binary64, up, down, of_bits, of_int, round, lt, to_unsigned, in_unsigned, in_float, is_nan}
@@ -165,11 +165,11 @@ module _ (q : Float) (a : lt one q ≡ true) (b : lt million q ≡ false) where
   one_more h =
       let l : w * B.d < B.n = ltb-true _ _ (sym whole_below ∙ h) in
       let r : B.n % B.d ≡ 0 → ⊥ = λ e. (let s = div-add-mod' B.n B.d in omega arith) in
-      rw (cast_is, B.up_is, ne_eqb (B.n % B.d) 0 r) (let f = few in omega arith)
+      rw (cast_is, B.up_is) (let f = few in omega arith)
 
   pub no_more : lt (whole_part q) q ≡ false → to_unsigned 64 (whole_part q) ≡ counted_to (steps_of_quotient q)
   unfolding w
   no_more h =
       let l : B.n ≤ w * B.d = ltb-false _ _ (sym whole_below ∙ h) in
       let r : B.n % B.d ≡ 0 = (let s = div-add-mod' B.n B.d in omega arith) in
-      rw (cast_is, B.up_is, eq-eqb (B.n % B.d) 0 r) (let f = few in let g = some in omega arith)
+      rw (cast_is, B.up_is) (let f = few in let g = some in omega arith)

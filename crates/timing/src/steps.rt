@@ -49,39 +49,24 @@ fn steps_up_to_limit(q: f64) -> u64
 pub fn record_interval(total_steps: u64) -> u64
     ensures { result ≡ interval_of total_steps }
 {
-    let n = total_steps / 5000;
-    if n < 1 { 1 } else { n }
+    (total_steps / 5000).max(1)
 }
 
 // Whether a run of so many steps records a step: a multiple of the interval, or the last one.
 pub fn is_recorded(step: u64, total_steps: u64) -> bool
     ensures { result ≡ recorded total_steps step }
 {
-    let interval = record_interval(total_steps);
-    (step % interval == 0) | (step == last_step(total_steps))
+    (step % record_interval(total_steps) == 0) | (step == total_steps.saturating_sub(1))
 }
 
-fn last_step(total_steps: u64) -> u64
-    ensures { result ≡ total_steps - 1 }
-{
-    if total_steps < 1 { 0 } else { total_steps - 1 }
-}
-
-// How many steps of a run are recorded.
+// How many steps of a run are recorded: the multiples of the interval before the last step, and the last.
 pub fn recorded_steps(total_steps: u64) -> u64
     ensures { result ≡ records_of total_steps }
 {
     if total_steps < 1 {
         return 0;
     }
-    let last = total_steps - 1;
-    let interval = record_interval(total_steps);
-    let multiples = last / interval + 1;
-    if last % interval == 0 {
-        multiples
-    } else {
-        multiples + 1
-    }
+    (total_steps - 1).div_ceil(record_interval(total_steps)) + 1
 }
 
 // How many numbers a record has.
