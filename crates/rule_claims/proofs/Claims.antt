@@ -1,7 +1,8 @@
 -- The claims of specs/Claims. Assumes nothing.
-use Prim.Native.Nat.{ℕ, ◌-◌, ◌≤◌}
+use Prim.Native.Nat.{ℕ, ◌≤◌}
 use native.Mathlib.Omega.{arith}
-use mathlib.Core.Path.{◌≡◌, refl, sym, ap, ◌∙◌}
+use Rattle.std.specs.Prelude.{Result, Ok, Err}
+use mathlib.Core.Path.{◌≡◌, refl, sym, ◌∙◌}
 use mathlib.Core.Logic.{◌↔◌}
 use mathlib.Core.Bool.{Bool, true, false, not, cond}
 use mathlib.Core.List.{List, [], ◌∷◌, ◌++◌}
@@ -16,6 +17,7 @@ use Rattle.grid.specs.Simulator.{breakers_of}
 use Rattle.timing.specs.Steps.{steps_of, most_steps}
 use Rattle.rule_tests.specs.Rules.{too_many_steps, breaker_outside}
 use Rattle.rules.specs.Studies.{first, broken, start_broken, start_refusal, switching_order, fault_order, flow_refusal, detection_refusal, switching_refusal, fault_refusal, sweep_refusal, point_refusal, number_of}
+use Rattle.rules.proofs.Outcomes.{err_at}
 use Rattle.rule_claims.specs.Claims.{RefusalClaims, AcceptedClaims, FastestClaims}
 use Rattle.timing.specs.Claims.{Steps}
 use Rattle.breaker_times.specs.Claims.{timed}
@@ -23,30 +25,17 @@ use Rattle.breaker_times.proofs.Fastest.{breaker_claims}
 use Rattle.grid.specs.declared.parts.ConverterStation.{ConverterStation}
 use Rattle.grid.specs.declared.parts.SweepOrder.{SweepOrder}
 use Rattle.grid.specs.declared.simulator.DcSwitchingSimulator.{DcSwitchingSimulator}
-use Rattle.rules.specs.declared.studies.Verdict.{Verdict}
-use Rattle.rules.specs.declared.studies.Verdict.TheVariants.{Accepted, NoStation, NoCable, TooManyParts, TimeOutside, TooManySteps, StationOutside, CableOutside, BreakerOutside, EventOutside, NotConverged}
+use Rattle.rules.specs.declared.studies.Refusal.{Refusal}
 use Rattle.rule_claims.proofs.AcceptedTimes.{accepted-timed}
 use Rattle.rule_claims.proofs.Deciding.{decides}
 
 -- ---- refusals
 
--- the answer of a number
-answer_of : ℕ → Verdict
-answer_of n = get_or (Accepted ∷ NoStation ∷ NoCable ∷ TooManyParts ∷ TimeOutside ∷ TooManySteps ∷ StationOutside ∷ CableOutside ∷ BreakerOutside ∷ EventOutside ∷ NotConverged ∷ []) n Accepted
-
-answered : (v : Verdict) → answer_of (number_of v) ≡ v
-unfolding answer_of number_of
-answered Accepted = refl
-answered NoStation = refl
-answered NoCable = refl
-answered TooManyParts = refl
-answered TimeOutside = refl
-answered TooManySteps = refl
-answered StationOutside = refl
-answered CableOutside = refl
-answered BreakerOutside = refl
-answered EventOutside = refl
-answered NotConverged = refl
+known : (v w : Result (Unit {0}) Refusal) → number_of v ≡ number_of w → v ≡ w
+unfolding number_of
+known v (Err y) e = err_at v y e
+known (Ok x) (Ok y) e = refl
+known (Err x) (Ok y) e = sym (err_at (Ok y) x (sym e))
 
 point_six : (s : ConverterStation) → (point_refusal s ≡ 6) ↔ (station_ok s ≡ false)
 unfolding point_refusal
@@ -99,7 +88,7 @@ refusal_claims =
       start_last = start_last;
       point_refused = point_six;
       point_accepted = point_nought;
-      known = λ v w e. sym (answered v) ∙ ap answer_of e ∙ answered w;
+      known = known;
     }
 
 -- ---- steps

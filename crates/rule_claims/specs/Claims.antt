@@ -1,5 +1,5 @@
 -- What document 01 says of refusals in words, and what a reader expects beside the definitions. The proofs are in proofs/Claims.antt.
-use Rattle.std.specs.Prelude.{◌≡◌, ◌↔◌, Bool, true, false, not, cond, List, ◌∷◌, ◌++◌, ℕ, ◌≤◌, ◌<◌, length}
+use Rattle.std.specs.Prelude.{◌≡◌, ◌↔◌, Bool, true, false, not, cond, List, ◌∷◌, ◌++◌, ℕ, ◌≤◌, ◌<◌, length, Result}
 use Rattle.std.specs.Float.Ieee.{le}
 use Rattle.lists.specs.Scans.{every}
 use Rattle.grid.specs.Simulator.{breakers_of}
@@ -14,7 +14,7 @@ use Rattle.grid.specs.declared.parts.ConverterStation.{ConverterStation}
 use Rattle.grid.specs.declared.parts.DcFaultEvent.{DcFaultEvent}
 use Rattle.grid.specs.declared.parts.SweepOrder.{SweepOrder}
 use Rattle.grid.specs.declared.simulator.DcSwitchingSimulator.{DcSwitchingSimulator}
-use Rattle.rules.specs.declared.studies.Verdict.{Verdict}
+use Rattle.rules.specs.declared.studies.Refusal.{Refusal}
 
 -- "the first that applies is returned": a number is returned exactly when its rule is broken and none before it in the order is, and 0 exactly when none is
 pub record Decides (answer : ℕ) (breaks : ℕ → Bool) (order : List ℕ) : Type 0 where
@@ -34,7 +34,7 @@ pub record RefusalClaims : Type 0 where
   pub point_refused : (s : ConverterStation) → (point_refusal s ≡ 6) ↔ (station_ok s ≡ false)
   pub point_accepted : (s : ConverterStation) → (point_refusal s ≡ 0) ↔ (station_ok s ≡ true)
   -- an answer is known by its number
-  pub known : (v w : Verdict) → number_of v ≡ number_of w → v ≡ w
+  pub known : (v w : Result (Unit {0}) Refusal) → number_of v ≡ number_of w → v ≡ w
 
 -- what is accepted has from 1 to 1,000,000 steps
 pub record AcceptedClaims : Type 0 where

@@ -1,8 +1,10 @@
 -- Worked examples of the definitions: they are believed, so a wrong clause need break no other proof. The answers were written by hand from document 01.
 use mathlib.Core.Path.{◌≡◌, refl}
-use mathlib.Core.Bool.{false, ◌||◌}
+use Rattle.std.specs.Prelude.{Ok, Err}
+use mathlib.Core.Bool.{Bool, true, false, ◌||◌}
 use mathlib.Core.List.{[], ◌∷◌, map}
-use Prim.Native.Nat.{ℕ, ◌-◌}
+use Prim.Native.Nat.{ℕ}
+use Rattle.std.specs.Option.{unwrap_or, option_and_then}
 use lib.Dec.{eqb}
 use lib.Ieee.{of_bits, of_int, round, div, lt, le, eq, is_nan}
 use Rattle.float64.specs.Constants.{nought, decimal}
@@ -12,18 +14,18 @@ use Rattle.part_checks.specs.PartChecks.{topology_ok, station_ok, cable_ok, brea
 use Rattle.grid.specs.Simulator.{blank_station, blank_cable, blank_breaker, new_simulator, with_station, with_cable, with_breaker, kept_time_step, kept_duration}
 use Rattle.timing.specs.Steps.{rounded_up, steps_of}
 use Rattle.rule_tests.specs.Rules.{too_many_parts, time_outside, too_many_steps, station_outside, cable_outside, breaker_outside}
-use Rattle.rules.specs.Studies.{order, first, broken, flow_order, detection_order, switching_order, fault_order, flow_refusal, detection_refusal, switching_refusal, fault_refusal, sweep_refusal, point_refusal, number_of}
+use Rattle.rules.specs.Studies.{order, first, broken, flow_order, detection_order, switching_order, fault_order, flow_refusal, detection_refusal, switching_refusal, fault_refusal, sweep_refusal, point_refusal, rule_number, number_of}
 use Rattle.grid.specs.declared.parts.ConverterTopology.TheVariants.{Mmc}
 use Rattle.grid.specs.declared.parts.DcFaultType.TheVariants.{PoleToGround}
 use Rattle.grid.specs.declared.parts.ConverterStation.{ConverterStation}
 use Rattle.grid.specs.declared.parts.DcFaultEvent.{DcFaultEvent}
 use Rattle.grid.specs.declared.parts.SweepOrder.{SweepOrder}
 use Rattle.grid.specs.declared.simulator.DcSwitchingSimulator.{DcSwitchingSimulator}
-use Rattle.rules.specs.declared.studies.Verdict.TheVariants.{Accepted, NoStation, NoCable, TooManyParts, TimeOutside, TooManySteps, StationOutside, CableOutside, BreakerOutside, EventOutside, NotConverged}
+use Rattle.rules.specs.declared.studies.Refusal.TheVariants.{NoStation, NoCable, TooManyParts, TimeOutside, TooManySteps, StationOutside, CableOutside, BreakerOutside, EventOutside, NotConverged}
 
 -- the numbers of 01's table of refusals, from its first row on; 0 for what is accepted
-numbers_are : (number_of Accepted ≡ 0) × (map number_of (NoStation ∷ NoCable ∷ TooManyParts ∷ TimeOutside ∷ TooManySteps ∷ StationOutside ∷ CableOutside ∷ BreakerOutside ∷ EventOutside ∷ NotConverged ∷ []) ≡ 1 ∷ 2 ∷ 3 ∷ 4 ∷ 5 ∷ 6 ∷ 7 ∷ 8 ∷ 9 ∷ 10 ∷ [])
-unfolding number_of
+numbers_are : (number_of (Ok true) ≡ 0) × (map (λ refusal. number_of {A = Bool} (Err refusal)) (NoStation ∷ NoCable ∷ TooManyParts ∷ TimeOutside ∷ TooManySteps ∷ StationOutside ∷ CableOutside ∷ BreakerOutside ∷ EventOutside ∷ NotConverged ∷ []) ≡ 1 ∷ 2 ∷ 3 ∷ 4 ∷ 5 ∷ 6 ∷ 7 ∷ 8 ∷ 9 ∷ 10 ∷ [])
+unfolding number_of rule_number
 numbers_are = (refl, refl)
 
 -- the orders of 01, written out; detection checks what flow does
@@ -44,7 +46,7 @@ none : DcSwitchingSimulator
 none = new_simulator (decimal 10 1) (decimal 100 1)
 
 some : DcSwitchingSimulator
-some = (with_breaker (with_cable (with_station none station).grid blank_cable).grid blank_breaker).grid
+some = unwrap_or (option_and_then (λ g. with_breaker g blank_breaker) (option_and_then (λ g. with_cable g blank_cable) (with_station none station))) none
 
 many : DcSwitchingSimulator
 many = record { stations = some.stations; cables = some.cables; breakers = some.breakers; n_stations = 0; n_cables = 0; n_breakers = 33; dt_us = some.dt_us; duration_ms = some.duration_ms }

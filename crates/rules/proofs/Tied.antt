@@ -23,8 +23,8 @@ use Rattle.rules.proofs.studies.check_sweep.Reads as check-sweep-reads
 use Rattle.rules.specs.contracts.studies.check_operating_point as check-operating-point-contract
 use Rattle.rules.proofs.studies.check_operating_point.Kinds as check-operating-point-kinds
 use Rattle.rules.proofs.studies.check_operating_point.Reads as check-operating-point-reads
-use Rattle.rules.specs.contracts.studies.number as number-contract
-use Rattle.rules.proofs.studies.number.Reads as number-reads
+use Rattle.rules.specs.contracts.studies.Refusal.number as number-contract
+use Rattle.rules.proofs.studies.Refusal.number.Reads as number-reads
 
 module _ (κs : Lfts 0) (a : ArgsD check-flow-contract.signature κs) (r : ResD check-flow-contract.signature κs) (e : AtExit (ended_of 0 check-flow-kinds.ps check-flow-kinds.r) κs) where
   pub check_flow_any : check-flow-reads.Asked κs a

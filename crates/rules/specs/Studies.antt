@@ -1,13 +1,13 @@
 -- The rules 1 to 10 of document 01, their numbers, and the order in which each study checks them. Definitions only.
-use Rattle.std.specs.Prelude.{ℕ, Bool, false, not, ◌||◌, cond, List, [], ◌∷◌, eqb, get_or}
+use Rattle.std.specs.Prelude.{ℕ, Bool, false, not, ◌||◌, cond, List, [], ◌∷◌, eqb, get_or, Result, Ok, Err}
 use Rattle.part_checks.specs.PartChecks.{station_ok, fault_ok, order_ok}
 use Rattle.grid.specs.declared.parts.ConverterStation.{ConverterStation}
 use Rattle.grid.specs.declared.parts.DcFaultEvent.{DcFaultEvent}
 use Rattle.grid.specs.declared.parts.SweepOrder.{SweepOrder}
 use Rattle.grid.specs.declared.simulator.DcSwitchingSimulator.{DcSwitchingSimulator}
 use Rattle.rule_tests.specs.Rules.{no_station, no_cable, too_many_parts, time_outside, too_many_steps, station_outside, cable_outside, breaker_outside}
-use Rattle.rules.specs.declared.studies.Verdict.{Verdict}
-use Rattle.rules.specs.declared.studies.Verdict.TheVariants.{Accepted, NoStation, NoCable, TooManyParts, TimeOutside, TooManySteps, StationOutside, CableOutside, BreakerOutside, EventOutside, NotConverged}
+use Rattle.rules.specs.declared.studies.Refusal.{Refusal}
+use Rattle.rules.specs.declared.studies.Refusal.TheVariants.{NoStation, NoCable, TooManyParts, TimeOutside, TooManySteps, StationOutside, CableOutside, BreakerOutside, EventOutside, NotConverged}
 
 -- ---- which rules are broken
 
@@ -95,16 +95,20 @@ point_refusal s = cond (station_ok s) 0 6
 
 -- ---- the answer
 
--- the number that 01 has for each answer, and 0 for what is accepted
-unfoldable pub number_of : Verdict → ℕ
-number_of Accepted = 0
-number_of NoStation = 1
-number_of NoCable = 2
-number_of TooManyParts = 3
-number_of TimeOutside = 4
-number_of TooManySteps = 5
-number_of StationOutside = 6
-number_of CableOutside = 7
-number_of BreakerOutside = 8
-number_of EventOutside = 9
-number_of NotConverged = 10
+-- the number that 01 has for each refusal
+unfoldable pub rule_number : Refusal → ℕ
+rule_number NoStation = 1
+rule_number NoCable = 2
+rule_number TooManyParts = 3
+rule_number TimeOutside = 4
+rule_number TooManySteps = 5
+rule_number StationOutside = 6
+rule_number CableOutside = 7
+rule_number BreakerOutside = 8
+rule_number EventOutside = 9
+rule_number NotConverged = 10
+
+-- the number of an answer: the refusal's, and 0 for what is accepted
+unfoldable pub number_of : {A : Type 0} → Result A Refusal → ℕ
+number_of (Ok x) = 0
+number_of (Err refusal) = rule_number refusal

@@ -4,6 +4,6 @@
 mod studies;
 
 pub use studies::{
-    Verdict, check_detection, check_fault, check_flow, check_operating_point, check_sweep,
-    check_switching, number,
+    Refusal, check_detection, check_fault, check_flow, check_operating_point, check_sweep,
+    check_switching,
 };

@@ -1,14 +1,10 @@
 -- `first_broken` meets its contract. Assumes nothing.
-use Prim.Native.Nat.{◌-◌}
 use mathlib.Core.Path.{◌≡◌}
-use lib.ListN.{length, drop}
-use borrow.Author.Rules.{rules}
-use Rattle.rules.specs.Studies.{broken, first}
+use mathlib.Core.List.{map}
+use lib.ListN.{drop}
+use Rattle.rules.specs.Studies.{broken, first, rule_number}
 use Rattle.rules.proofs.studies.first_broken.Given as goal
 
 -- the rules passed by are not broken
-abbrev pub invariant-loop-i : goal.invariant-loop-i
-invariant-loop-i l = first (broken l.g l.event_outside) l.order ≡ first (broken l.g l.event_outside) (drop l.i l.order)
-
-abbrev pub decreases-loop-i : goal.decreases-loop-i
-decreases-loop-i l = length l.order - l.i
+abbrev pub invariant-loop-rule : goal.invariant-loop-rule
+invariant-loop-rule l = first (broken l.g l.event_outside) (map rule_number l.order) ≡ first (broken l.g l.event_outside) (map rule_number (drop l.rule-index l.order))
