@@ -1,8 +1,6 @@
 -- What document 01.9 says of fields in words, and what a reader expects beside the definitions. The proofs are in proofs/Claims.antt.
-use Rattle.std.specs.Prelude.{ℕ, zero, suc, ◌-◌, ◌^◌, ◌<◌, ◌≤◌, ◌≡◌, ◌⊎◌, ◌↔◌, true, List, [], ◌∷◌, ◌++◌, length, get_or, replicate, Float}
+use Rattle.std.specs.Prelude.{ℕ, zero, suc, ◌-◌, ◌^◌, ◌<◌, ◌≤◌, ◌≡◌, ◌⊎◌, ◌↔◌, true, List, [], ◌∷◌, ◌++◌, length, get_or, replicate, Some, Float}
 use Rattle.field_columns.specs.declared.fields.Decimal.{Decimal}
-use Rattle.field_columns.specs.declared.fields.Field.TheVariants.{Number}
-use Rattle.field_columns.specs.declared.fields.WholeField.TheVariants.{Whole}
 use Rattle.field_columns.specs.Fields.{some_digits, number, field_of, whole_of, value_of}
 use Rattle.rounding.specs.Nearest.{NearestDouble}
 use Rattle.printed_numbers.specs.Printed.{digits_of, right_justified, printed_decimal}
@@ -32,13 +30,13 @@ pub record Pointed (cs : List ℕ) (d : Decimal) : Type 0 where
 
 pub record FieldClaims : Type 0 where
   -- what a field is: 12 columns of one of these two forms
-  pub form : (cs : List ℕ) (d : Decimal) → field_of cs ≡ Number d ↔ (length cs ≡ 12) × (Plain cs d ⊎ Pointed cs d)
+  pub form : (cs : List ℕ) (d : Decimal) → field_of cs ≡ Some d ↔ (length cs ≡ 12) × (Plain cs d ⊎ Pointed cs d)
   -- 12 digits at most, so that a number of 64 bits and a double hold them
-  pub digits_below : (cs : List ℕ) (d : Decimal) → field_of cs ≡ Number d → d.digits < 10 ^ 12
+  pub digits_below : (cs : List ℕ) (d : Decimal) → field_of cs ≡ Some d → d.digits < 10 ^ 12
   -- the value is the nearest double
-  pub nearest : (cs : List ℕ) (d : Decimal) → field_of cs ≡ Number d → NearestDouble d.digits (10 ^ d.places) (value_of d)
+  pub nearest : (cs : List ℕ) (d : Decimal) → field_of cs ≡ Some d → NearestDouble d.digits (10 ^ d.places) (value_of d)
   -- and no other double is as near: a field is never half way between two
-  pub only : (cs : List ℕ) (d : Decimal) (y : Float) → field_of cs ≡ Number d → NearestDouble d.digits (10 ^ d.places) y → y ≡ value_of d
+  pub only : (cs : List ℕ) (d : Decimal) (y : Float) → field_of cs ≡ Some d → NearestDouble d.digits (10 ^ d.places) y → y ≡ value_of d
 
 -- ---- printing
 
@@ -59,5 +57,5 @@ pub record PrintedClaims : Type 0 where
   pub no_zero_first : (n : ℕ) → n < 2 ^ 64 → 0 < n → get_or (digits_of n) 0 48 ≡ 48 → ⊥
   pub nought : digits_of 0 ≡ 48 ∷ []
   -- what is printed in 12 columns is read back
-  pub whole_back : (n : ℕ) → n < 10 ^ 12 → whole_of (right_justified 12 n) ≡ Whole n
-  pub decimal_back : (digits places : ℕ) → places ≤ 6 → Holds12 digits places → field_of (printed_decimal digits places) ≡ Number (record { digits = digits; places = places })
+  pub whole_back : (n : ℕ) → n < 10 ^ 12 → whole_of (right_justified 12 n) ≡ Some n
+  pub decimal_back : (digits places : ℕ) → places ≤ 6 → Holds12 digits places → field_of (printed_decimal digits places) ≡ Some (record { digits = digits; places = places })

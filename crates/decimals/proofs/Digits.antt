@@ -1,13 +1,15 @@
 -- How many digits a number has, whatever the limit on them, and those behind a point. Assumes nothing.
-use mathlib.Core.Path.{◌≡◌, refl, sym, ap, ◌∙◌, subst}
+use mathlib.Core.Path.{◌≡◌, refl, sym, ap, ◌∙◌}
+use mathlib.Core.Logic.{inl, inr}
 use mathlib.Core.Bool.{Bool, true, false, cond}
 use mathlib.Core.List.{List, [], ◌∷◌, ◌++◌, append_assoc, append-nil}
-use Prim.Native.Nat.{ℕ, zero, suc, ◌+◌, ◌-◌, ◌*◌, ◌/◌, ◌%◌, ◌^◌, ◌≤◌, ◌<◌}
+use Prim.Native.Nat.{ℕ, zero, suc, ◌+◌, ◌*◌, ◌/◌, ◌%◌, ◌^◌, ◌≤◌, ◌<◌}
 use native.Mathlib.Nat.{pow-suc, pow-succ', div-one, div-div-eq-div-mul, pow-le-pow_right, lt_of_lt_of_le, le-div_iff_mul-le, mul_assoc, zero-add, suc-add}
 use native.Mathlib.Omega.{arith}
 use lib.Dec.{ltb}
 use lib.ListN.{length, length-append}
 use borrow.Author.Tests.{ltb-true, ltb-false, le-ltb, lt-ltb}
+use Rattle.lists.proofs.Counting.{lt_or_le}
 use Rattle.printed_numbers.specs.Printed.{numeral, digits_of, last_digits}
 use Rattle.printed_numbers.proofs.Justified.{shorter}
 use Rattle.column_claims.proofs.Spelled.{few_digits}
@@ -94,27 +96,9 @@ last_behind (suc p) a n =
     ten : (a b : ℕ) → a * (b * 10) ≡ 10 * (a * b)
     ten a b = omega (arith, mul_assoc a b 10)
 
--- ---- a power of ten that is not above a number of 12 digits, at a place from the left
-pub place_left : (n place power : ℕ) → n < 10 ^ 12 → place ≤ 12 → power ≡ 10 ^ (13 - place) → power ≤ n → 0 < place
-place_left n zero power h l e g = absurd (omega arith)
-place_left n (suc k) power h l e g = omega arith
+-- ---- the power of ten that is not above a number of 12 digits
+pub log_below : (n k : ℕ) → n < 10 ^ 12 → 10 ^ k ≤ n → k < 12
+log_below n k h l = elim (lt_or_le k 12) [ inl g ↦ g | inr g ↦ absurd (omega (arith, pow-le-pow_right {n = 10} (omega arith) {i = 12} {j = k} g)) ]
 
-pub power_step : (place power : ℕ) → 0 < place → place ≤ 12 → power ≡ 10 ^ (13 - place) → power * 10 ≡ 10 ^ (13 - (place - 1))
-power_step place power p h e = ap (λ (z : ℕ). z * 10) e ∙ sym (pow-suc 10 (13 - place)) ∙ ap (λ (z : ℕ). 10 ^ z) next
-  where
-    next : suc (13 - place) ≡ 13 - (place - 1)
-    next = omega arith
-
-pub power_reached : (n place power : ℕ) → 0 < place → place ≤ 12 → power ≡ 10 ^ (13 - place) → power ≤ n → 10 ^ (12 - (place - 1)) ≤ n
-power_reached n place power p h e g = subst (λ (z : ℕ). z ≤ n) (e ∙ ap (λ (z : ℕ). 10 ^ z) next) g
-  where
-    next : 13 - place ≡ 12 - (place - 1)
-    next = omega arith
-
-pub place_is : (n place power : ℕ) → place ≤ 12 → power ≡ 10 ^ (13 - place) → (0 < 12 - place → 10 ^ (12 - place) ≤ n) → n < power → place + 1 + length (digits_of n) ≡ 14
-place_is n place power h e g l =
-    let c : length (digits_of n) ≡ suc (12 - place) = digit_count (12 - place) n (omega arith) (subst (λ (z : ℕ). n < z) (e ∙ ap (λ (z : ℕ). 10 ^ z) next) l) g in
-    omega arith
-  where
-    next : 13 - place ≡ suc (12 - place)
-    next = omega arith
+pub log_digits : (n k : ℕ) → n < 10 ^ 12 → 10 ^ k ≤ n → n < 10 * 10 ^ k → length (digits_of n) ≡ suc k
+log_digits n k h l g = digit_count k n (omega (arith, log_below n k h l)) (omega (arith, pow-suc 10 k)) (λ p. l)

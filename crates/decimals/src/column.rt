@@ -32,6 +32,7 @@ pub fn decimal_column(x: f64) -> [u8; 21]
 }
 
 // A number of millionths, with the sign of the double that it is of.
+#[tactic(auto, using(crate::proofs::Texts::too_many, crate::proofs::Texts::too_many_below_0, crate::proofs::Texts::same_zero, crate::proofs::Texts::signed_written))]
 fn column_of(negative: bool, q: u64) -> [u8; 21]
     ensures { result ≡ fitted (six_places negative q) }
 {
@@ -55,6 +56,7 @@ fn column_of(negative: bool, q: u64) -> [u8; 21]
 }
 
 // Without a sign: the whole part in 14 columns, the point, and six digits. These are printed behind a 1, in whose place the point is put.
+#[tactic(auto, using(crate::proofs::Texts::unsigned_written))]
 fn unsigned_column(q: u64) -> [u8; 21]
     requires { q < 10 ^ 19 }
     ensures { result ≡ fitted (six_places false q) }
@@ -66,16 +68,14 @@ fn unsigned_column(q: u64) -> [u8; 21]
     text
 }
 
-// The column before the first digit of a whole part.
+// The column before the first digit of a whole part, which has one digit or more.
 fn sign_place(whole: u64) -> usize
     requires { whole < 10 ^ 12 }
     ensures { result + 1 + length (digits_of whole) ≡ 14 }
 {
-    let mut place = 12;
-    let mut power = 10;
-    while power <= whole {
-        place -= 1;
-        power *= 10;
+    let last = BEFORE_POINT - 2;
+    match whole {
+        0 => last,
+        _ => last - whole.ilog10() as usize,
     }
-    place
 }

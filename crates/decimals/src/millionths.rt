@@ -54,6 +54,7 @@ fn product(m: u64) -> Parts
 }
 
 // (8 eighths + rest) / (8 unit) to the nearest whole number, a tie to the even one.
+#[tactic(auto, using(crate::proofs::Rounded::less_than_half, crate::proofs::Rounded::more_than_half, crate::proofs::Rounded::just_more, crate::proofs::Rounded::half))]
 fn nearest(eighths: u64, rest: u64, unit: u64) -> u64
     requires { (0 < unit) × (unit ≤ 2 ^ 63) × (rest < 8) × (eighths + 1 < 2 ^ 64) }
     ensures { result ≡ closest (8 * eighths + rest) (8 * unit) }

@@ -1,18 +1,11 @@
 -- When a byte is a digit. Assumes nothing.
-use Prim.Native.Nat.{ℕ, ◌<◌, ◌≤◌}
+use Prim.Native.Nat.{ℕ, ◌≤◌}
 use mathlib.Core.Path.{◌≡◌}
-use mathlib.Core.Bool.{true, false}
-use native.Mathlib.Omega.{arith}
+use mathlib.Core.Bool.{true}
 use lib.Dec.{leb}
-use borrow.Author.Tests.{le-leb, lt-leb, leb-true}
+use borrow.Author.Tests.{le-leb, leb-true}
 use Rattle.lists.proofs.Scanning.{left, right}
 use Rattle.field_columns.specs.Fields.{is_digit}
-
-pub digit_low : (b : ℕ) → b < 48 → is_digit b ≡ false
-digit_low b h = simp (lt-leb 48 b h)
-
-pub digit_high : (b : ℕ) → 57 < b → is_digit b ≡ false
-digit_high b h = simp (le-leb 48 b (omega arith), lt-leb b 57 h)
 
 pub digit_yes : (b : ℕ) → 48 ≤ b → b ≤ 57 → is_digit b ≡ true
 digit_yes b h k = simp (le-leb 48 b h, le-leb b 57 k)

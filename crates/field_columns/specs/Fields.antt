@@ -1,16 +1,10 @@
 -- A field as document 01.9 has it: 12 columns, a decimal number right-justified after spaces, no sign, one digit or more (leading zeros allowed), then perhaps a point and 1 to 6 digits. The
 -- value is the nearest double; a point in a whole-number field is wrong. Bytes are ASCII: a space is 32, a point 46, the digits 48 to 57.
-use Rattle.std.specs.Prelude.{ℕ, ◌+◌, ◌*◌, ◌-◌, ◌^◌, Bool, false, ◌&&◌, cond, List, [], ◌∷◌, ◌++◌, eqb, leb, ltb, length, Float}
+use Rattle.std.specs.Prelude.{ℕ, ◌+◌, ◌*◌, ◌-◌, ◌^◌, Bool, false, ◌&&◌, cond, List, [], ◌∷◌, ◌++◌, eqb, leb, ltb, length, Option, Some, None, Float}
 use Rattle.std.specs.Float.{binary64}
 use Rattle.std.specs.Float.Ieee.{round}
 use Rattle.lists.specs.Scans.{every}
 use Rattle.field_columns.specs.declared.fields.Decimal.{Decimal}
-use Rattle.field_columns.specs.declared.fields.Field.{Field}
-use Rattle.field_columns.specs.declared.fields.Field.TheVariants as field
-use Rattle.field_columns.specs.declared.fields.WholeField.{WholeField}
-use Rattle.field_columns.specs.declared.fields.WholeField.TheVariants as whole
-use Rattle.field_columns.specs.declared.fields.RealField.{RealField}
-use Rattle.field_columns.specs.declared.fields.RealField.TheVariants as real
 
 -- ---- the form
 
@@ -49,30 +43,30 @@ number_from n (b ∷ bs) = number_from (n * 10 + (b - 48)) bs
 abbrev pub number : List ℕ → ℕ
 number bs = number_from 0 bs
 
-abbrev pub decimal_of : Parts → Field
-decimal_of (no_point w) = cond (some_digits w) (field.Number (record { digits = number w; places = 0 })) field.Wrong
-decimal_of (at_point w f) = cond (some_digits w && (some_digits f && leb (length f) 6)) (field.Number (record { digits = number (w ++ f); places = length f })) field.Wrong
+abbrev pub decimal_of : Parts → Option Decimal
+decimal_of (no_point w) = cond (some_digits w) (Some (record { digits = number w; places = 0 })) None
+decimal_of (at_point w f) = cond (some_digits w && (some_digits f && leb (length f) 6)) (Some (record { digits = number (w ++ f); places = length f })) None
 
 -- ---- the three readings of the columns of a field
 
-unfoldable pub field_of : List ℕ → Field
-field_of cs = cond (eqb (length cs) 12) (decimal_of (split (after_spaces cs))) field.Wrong
+unfoldable pub field_of : List ℕ → Option Decimal
+field_of cs = cond (eqb (length cs) 12) (decimal_of (split (after_spaces cs))) None
 
 -- of a whole-number field
-abbrev pub as_whole : Field → WholeField
-as_whole (field.Number d) = cond (eqb d.places 0) (whole.Whole d.digits) whole.Wrong
-as_whole field.Wrong = whole.Wrong
+abbrev pub as_whole : Option Decimal → Option ℕ
+as_whole (Some d) = cond (eqb d.places 0) (Some d.digits) None
+as_whole None = None
 
-unfoldable pub whole_of : List ℕ → WholeField
+unfoldable pub whole_of : List ℕ → Option ℕ
 whole_of cs = as_whole (field_of cs)
 
 -- digits / 10 ^ places, rounded once: the nearest double, as `FieldClaims` has it
 abbrev pub value_of : Decimal → Float
 value_of d = round binary64 false d.digits (10 ^ d.places)
 
-abbrev pub as_real : Field → RealField
-as_real (field.Number d) = real.Real (value_of d)
-as_real field.Wrong = real.Wrong
+abbrev pub as_real : Option Decimal → Option Float
+as_real (Some d) = Some (value_of d)
+as_real None = None
 
-unfoldable pub real_of : List ℕ → RealField
+unfoldable pub real_of : List ℕ → Option Float
 real_of cs = as_real (field_of cs)

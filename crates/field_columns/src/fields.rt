@@ -11,35 +11,16 @@ pub struct Decimal {
     pub places: u64,
 }
 
-#[derive(Clone, Copy)]
-pub enum Field {
-    Number(Decimal),
-    Wrong,
-}
-
-// What field_values::whole_at answers.
-#[derive(Clone, Copy)]
-pub enum WholeField {
-    Whole(u64),
-    Wrong,
-}
-
-// What field_values::real_at answers.
-#[derive(Clone, Copy)]
-pub enum RealField {
-    Real(f64),
-    Wrong,
-}
-
-// The number in the 12 columns from a position of the line on. It is wrong if the line ends before the last of them, and if they do not have the form of a field.
-pub fn field_at(line: &[u8], at: usize) -> Field
+// The number in the 12 columns from a position of the line on, or None if the line ends before the last of them, and if they do not have the form of a field.
+#[tactic(auto, using(crate::proofs::Ways::too_short))]
+pub fn field_at(line: &[u8], at: usize) -> Option<Decimal>
     ensures { result ≡ field_of (take 12 (drop at line.now)) }
 {
     if at > line.len() {
-        return Field::Wrong;
+        return None;
     }
     if line.len() - at < FIELD_WIDTH {
-        return Field::Wrong;
+        return None;
     }
-    scanned(line, at)
+    scanned(&line[at..at + FIELD_WIDTH])
 }

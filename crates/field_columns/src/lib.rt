@@ -4,4 +4,4 @@
 mod fields;
 mod scan;
 
-pub use fields::{Decimal, Field, RealField, WholeField, field_at};
+pub use fields::{Decimal, field_at};

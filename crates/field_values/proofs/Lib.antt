@@ -1,4 +1,4 @@
--- a law for each way out of whole_at and real_at
+-- both numbers of a field are doubles
 pub mod Ways
 -- one float division of two whole numbers rounds their quotient once
 pub mod Divide

@@ -7,7 +7,7 @@ use borrow.Fn.World.{ArgsD, ResD}
 use borrow.Fn.Kinds.{ended_of}
 use denote.Triple.Clauses.{AtExit}
 use lib.ListN.{take, drop}
-use Rattle.field_columns.specs.declared.fields.WholeField.TheVariants as whole
+use Rattle.std.specs.Prelude.{Some}
 use Rattle.field_columns.proofs.Below.{whole_below}
 use Rattle.field_values.specs.contracts.fields.whole_at as whole-at-contract
 use Rattle.field_values.proofs.fields.whole_at.Kinds as whole-at-kinds
@@ -19,7 +19,7 @@ module _ (κs : Lfts 1) (a : ArgsD whole-at-contract.signature κs) (r : ResD wh
   pub whole_at_any : whole-at-reads.Asked κs a
   whole_at_any = tt
 
-  pub whole_at_below : whole-at-reads.Learnt κs a r e → (n : ℕ) → r ≡ whole.Whole n → n < 10 ^ 12
+  pub whole_at_below : whole-at-reads.Learnt κs a r e → (n : ℕ) → r ≡ Some n → n < 10 ^ 12
   whole_at_below h n q = whole_below (take 12 (drop a.1.0 a.0.now)) n (sym h ∙ q)
 
 module _ (κs : Lfts 1) where

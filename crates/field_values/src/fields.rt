@@ -3,29 +3,25 @@ ghost use Rattle.std.specs.Prelude.{◌≡◌, take, drop};
 ghost use Rattle.field_columns.specs.Fields.{whole_of, real_of};
 
 use crate::value::nearest_double;
-use field_columns::{Field, RealField, WholeField, field_at};
+use field_columns::field_at;
 
-// The number in the 12 columns of a whole-number field from a position of the line on: a point in it is wrong.
-pub fn whole_at(line: &[u8], at: usize) -> WholeField
+// The number in the 12 columns of a whole-number field from a position of the line on, or None if they do not have the form of a field, and if there is a point in it.
+#[tactic(auto, unfolding(field_columns::specs::Fields::whole_of))]
+pub fn whole_at(line: &[u8], at: usize) -> Option<u64>
     ensures { result ≡ whole_of (take 12 (drop at line.now)) }
 {
-    let field = field_at(line, at);
-    let Field::Number(number) = field else {
-        return WholeField::Wrong;
-    };
+    let number = field_at(line, at)?;
     if number.places == 0 {
-        return WholeField::Whole(number.digits);
+        return Some(number.digits);
     }
-    WholeField::Wrong
+    None
 }
 
-// The number in these columns as a double, the nearest one.
-pub fn real_at(line: &[u8], at: usize) -> RealField
+// The number in these columns as a double, the nearest one, or None if they do not have the form of a field.
+#[tactic(auto, using(crate::proofs::Ways::few_digits, crate::proofs::Ways::few_places), unfolding(field_columns::specs::Fields::real_of))]
+pub fn real_at(line: &[u8], at: usize) -> Option<f64>
     ensures { result ≡ real_of (take 12 (drop at line.now)) }
 {
-    let field = field_at(line, at);
-    let Field::Number(number) = field else {
-        return RealField::Wrong;
-    };
-    RealField::Real(nearest_double(number.digits, number.places))
+    let number = field_at(line, at)?;
+    Some(nearest_double(number.digits, number.places))
 }

@@ -1,5 +1,5 @@
 -- What the columns of a line hold once all are written. Assumes nothing.
-use Prim.Native.Nat.{ℕ, suc, ◌+◌, ◌*◌, ◌<◌, ◌≤◌}
+use Prim.Native.Nat.{ℕ, suc, ◌+◌, ◌*◌, ◌-◌, ◌<◌, ◌≤◌}
 use mathlib.Core.Path.{◌≡◌, refl, sym, ◌∙◌, ap}
 use mathlib.Core.List.{List, [], ◌∷◌, ◌++◌, append_assoc, append-nil}
 use native.Mathlib.Omega.{arith}
@@ -7,9 +7,7 @@ use native.Mathlib.Nat.{mul-zero, le_of_eq}
 use lib.ListN.{length, set, get_or, take, drop, replicate, length-append, length-take, length-drop}
 use native.Mathlib.Numerals.{add-one}
 use lib.Seq.{sets, sets-eq, drop-drop, drop-cons, take_all, take_at, drop-append-add}
-use lib.Ieee.{Float}
-use Rattle.lists.specs.Tables.{tab}
-use Rattle.lists.proofs.Fills.{is_tab}
+use borrow.Rule.Slice.PartMut.{put_mid}
 use Rattle.float64.specs.Pattern.{double_of}
 use Rattle.printed_numbers.specs.Printed.{right_justified, with_number}
 use Rattle.printed_numbers.proofs.Justified.{length_right_justified, put_next}
@@ -35,13 +33,6 @@ put_all_lem (n ∷ ns) pre rest o at width e h r =
     (length-append pre (right_justified width n) ∙ omega (arith, length_right_justified width n)) (rw length-drop (omega arith))
     ∙ ap (λ z. z ++ drop (width * length ns) (drop width rest)) (append_assoc pre (right_justified width n) (columns_of width ns))
     ∙ ap (λ z. pre ++ (right_justified width n ++ columns_of width ns) ++ z) (drop-drop (width * length ns) width rest ∙ ap (λ k. drop k rest) (sym s))
-
--- one number more
-pub put_more : (out ns o : List ℕ) (place width i : ℕ) → i < length ns → o ≡ with_number out place width (get_or ns i 0) → put_all o (place + width) width (drop (i + 1) ns) ≡ put_all out place width (drop i ns)
-put_more out ns o place width i h e =
-    ap (λ z. put_all z (place + width) width (drop (i + 1) ns)) e
-    ∙ ap (λ k. put_all (with_number out place width (get_or ns i 0)) (place + width) width (drop k ns)) (add-one i)
-    ∙ sym (ap (put_all out place width) (drop-cons ns i 0 h))
 
 -- ---- doubles
 pub length_decimals : (bs : List ℕ) → length (decimals_of bs) ≡ 21 * length bs
@@ -72,17 +63,18 @@ put_values_lem (b ∷ bs) pre rest o at e h r =
     ∙ ap (λ z. z ++ drop (21 * length bs) (drop 21 rest)) (append_assoc pre c (decimals_of bs))
     ∙ ap (λ z. pre ++ (c ++ decimals_of bs) ++ z) (drop-drop (21 * length bs) 21 rest ∙ ap (λ k. drop k rest) (sym s))
 
--- a column that is read byte by byte
-column_tab : (c : List ℕ) → length c ≡ 21 → tab 21 (λ k. get_or c k 0) ≡ c
-column_tab c e = sym (is_tab 21 (λ k. get_or c k 0) 0 c e (λ k l. refl))
-
-pub value_stored : (out o c : List ℕ) (x : Float) (place b : ℕ) → x ≡ double_of b → c ≡ decimal_column x → o ≡ sets out place (tab 21 (λ k. get_or c k 0)) → o ≡ sets out place (decimal_column (double_of b))
-value_stored out o c x place b d e f = f ∙ ap (sets out place) (column_tab c (ap length e ∙ length_column x) ∙ e ∙ ap decimal_column d)
+-- a column copied to its place
+column_put : (out c : List ℕ) (place : ℕ) → place + 21 ≤ length out → length c ≡ 21 → put_mid place (place + 21 - place) out c ≡ sets out place c
+column_put out c place h e =
+    let k : place + 21 - place ≡ 21 = omega arith in
+    let q : drop (place + length c) out ≡ drop (place + 21 - place) (drop place out) = rw (e, k) (sym (drop-drop 21 place out)) in
+    sym (sets-eq c out place (rw e h) ∙ ap (λ z. take place out ++ c ++ z) q ∙ append_assoc (take place out) c (drop (place + 21 - place) (drop place out)))
 
 -- one double more
-pub value_more : (out bs o : List ℕ) (place i : ℕ) → i < length bs → o ≡ sets out place (decimal_column (double_of (get_or bs i 0))) → put_values o (place + 21) (drop (i + 1) bs) ≡ put_values out place (drop i bs)
-value_more out bs o place i h e =
-    ap (λ z. put_values z (place + 21) (drop (i + 1) bs)) e
+pub value_more : (out bs c : List ℕ) (place i : ℕ) → place + 21 ≤ length out → i < length bs → c ≡ decimal_column (double_of (get_or bs i 0))
+    → put_values (put_mid place (place + 21 - place) out c) (place + 21) (drop (i + 1) bs) ≡ put_values out place (drop i bs)
+value_more out bs c place i l h e =
+    ap (λ z. put_values z (place + 21) (drop (i + 1) bs)) (column_put out c place l (ap length e ∙ length_column (double_of (get_or bs i 0))) ∙ ap (sets out place) e)
     ∙ ap (λ k. put_values (sets out place (decimal_column (double_of (get_or bs i 0)))) (place + 21) (drop k bs)) (add-one i)
     ∙ sym (ap (put_values out place) (drop-cons bs i 0 h))
 

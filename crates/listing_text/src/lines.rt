@@ -1,8 +1,6 @@
 // The text of a line: a letter, numbers in columns, and a line feed.
-ghost use Rattle.std.specs.Prelude.{◌≡◌, ◌+◌, ◌*◌, ◌<◌, ◌≤◌, length, get_or};
-ghost use Rattle.std.proofs.lemmas.List.Edits.{sets};
+ghost use Rattle.std.specs.Prelude.{◌≡◌, ◌+◌, ◌*◌, ◌<◌, ◌≤◌, length};
 ghost use Rattle.listing_text.specs.Lines.{row_text, end_text, refusal_text};
-ghost use Rattle.lists.specs.Tables.{tab};
 ghost use Rattle.listing_text.specs.Puts.{two_put, put_all, put_values};
 
 use decimals::decimal_column;
@@ -20,6 +18,7 @@ const VALUE_WIDTH: usize = 21;
 const VALUES_AT: usize = 17;
 
 // A row: R, its first four numbers in columns of 4, and the doubles whose bits are the other four as decimals in columns of 21.
+#[tactic(auto, using(crate::proofs::Written::row_written))]
 pub fn row_text(row: [u64; 8]) -> [u8; 102]
     ensures { result ≡ row_text row }
 {
@@ -30,7 +29,8 @@ pub fn row_text(row: [u64; 8]) -> [u8; 102]
     text
 }
 
-// The end: E, and how many cases and steps there were, in columns of 12.
+// The end, as short as a refusal by what writes both: E, and how many cases and steps there were, in columns of 12.
+#[tactic(auto, using(crate::proofs::Written::end_written))]
 pub fn end_text(cases: u64, steps: u64) -> [u8; 26]
     ensures { result ≡ end_text cases steps }
 {
@@ -40,6 +40,7 @@ pub fn end_text(cases: u64, steps: u64) -> [u8; 26]
 }
 
 // A refusal: X, its number in 4 columns, and the line of the sheet in 12.
+#[tactic(auto, using(crate::proofs::Written::refusal_written))]
 pub fn refusal_text(number: u64, line: u64) -> [u8; 18]
     ensures { result ≡ refusal_text number line }
 {
@@ -48,7 +49,7 @@ pub fn refusal_text(number: u64, line: u64) -> [u8; 18]
     text
 }
 
-// Writes a letter, a number in `width` columns behind it, and another in 12 columns behind that.
+// Writes a letter, a byte as any other, a number in `width` columns behind it, and another in 12 columns behind that.
 fn put_two(out: &mut [u8], letter: u8, width: usize, first: u64, second: u64)
     requires out_nonzero { 0 < length out.old }
     requires width_bound { width ≤ 12 }
@@ -67,11 +68,9 @@ fn put_columns(out: &mut [u8], at: usize, width: usize, numbers: &[u64])
     ensures { out.new ≡ put_all out.old at width numbers.now }
 {
     let mut place = at;
-    let mut i = 0;
-    while i < numbers.len() {
-        put_number(out, place, width, numbers[i]);
+    for n in numbers {
+        put_number(out, place, width, *n);
         place += width;
-        i += 1;
     }
 }
 
@@ -81,23 +80,9 @@ fn put_values(out: &mut [u8], at: usize, values: &[u64])
     ensures { out.new ≡ put_values out.old at values.now }
 {
     let mut place = at;
-    let mut i = 0;
-    while i < values.len() {
-        let column = decimal_column(from_bits(values[i]));
-        put_bytes(out, place, &column);
+    for bits in values {
+        let column = decimal_column(from_bits(*bits));
+        out[place..place + VALUE_WIDTH].copy_from_slice(&column);
         place += VALUE_WIDTH;
-        i += 1;
-    }
-}
-
-// Writes the bytes of a column from a position on.
-fn put_bytes(out: &mut [u8], at: usize, column: &[u8; 21])
-    requires { at + 21 ≤ length out.old }
-    ensures { out.new ≡ sets out.old at (tab 21 (λ k. get_or column.now k 0)) }
-{
-    let mut i = 0;
-    while i < VALUE_WIDTH {
-        out[at + i] = column[i];
-        i += 1;
     }
 }

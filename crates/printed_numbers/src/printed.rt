@@ -5,6 +5,7 @@ ghost use Rattle.printed_numbers.specs.Glyphs.{glyph_of};
 
 // Writes a number right-justified into the columns from a position on, spaces before its digits, and nothing else. Of a number with more digits than there are columns the last digits are
 // written. Where these columns are not all in the memory, nothing is.
+#[tactic(auto, using(crate::proofs::Justified::no_room, crate::proofs::Justified::no_column))]
 pub fn put_number(out: &mut [u8], at: usize, width: usize, n: u64)
     ensures { out.new ≡ with_number out.old at width n }
 {
@@ -26,11 +27,10 @@ fn put_digits(out: &mut [u8], at: usize, width: usize, n: u64)
     requires width_nonzero { 0 < width }
     ensures { out.new ≡ with_number out.old at width n }
 {
-    let mut j = width - 1;
+    let last = width - 1;
     let mut rest = n / 10;
-    out[at + j] = b'0' + (n % 10) as u8;
-    while j > 0 {
-        j -= 1;
+    out[at + last] = b'0' + (n % 10) as u8;
+    for j in (0..last).rev() {
         out[at + j] = glyph(rest);
         rest /= 10;
     }

@@ -1,26 +1,19 @@
--- `sign_place` meets its contract: the power of ten grows by a digit as the place goes left. Assumes nothing.
-use mathlib.Core.Path.{refl}
-use Prim.Native.Nat.{◌-◌, ◌<◌}
+use mathlib.Core.Path.{◌≡◌}
+use lib.ListN.{length}
 use native.Mathlib.Omega.{arith}
-use Rattle.decimals.proofs.Digits.{place_left, power_step, power_reached, place_is}
+use Rattle.printed_numbers.specs.Printed.{digits_of}
+use Rattle.decimals.proofs.Digits.{digit_count, log_below, log_digits}
 use Rattle.decimals.proofs.column.sign_place.Goals as goal
 
-pub loop-power-init : goal.loop-power-init
-loop-power-init c = (omega arith, refl, λ h. absurd (omega arith))
+pub overflow_sub-result : goal.overflow_sub-result
+overflow_sub-result c = omega (arith, log_below c.args.whole c.ilog10.result c.requires c.ilog10.ensures.power_le)
 
-left : (c : goal.In-loop-power) → 0 < c.loop-power.place
-left c = let l = c.loop-power in place_left c.args.whole l.place l.power c.requires l.invariant.0 l.invariant.1 c.loop-power-test.true
+pub returns-in-0 : goal.returns-in-0
+returns-in-0 c =
+    let e : length (digits_of c.args.whole) ≡ 1 = digit_count 0 c.args.whole (omega arith) (omega arith) (λ h. absurd (omega arith)) in
+    omega arith
 
-pub overflow_sub-place : goal.overflow_sub-place
-overflow_sub-place c = omega (arith, left c)
-
-pub loop-power-smaller : goal.loop-power-smaller
-loop-power-smaller c = omega (arith, left c)
-
-pub loop-power-preserved : goal.loop-power-preserved
-loop-power-preserved c =
-    let l = c.loop-power in
-    (omega (arith, left c), power_step l.place l.power (left c) l.invariant.0 l.invariant.1, λ h. power_reached c.args.whole l.place l.power (left c) l.invariant.0 l.invariant.1 c.loop-power-test.true)
-
-pub returns : goal.returns
-returns c = let l = c.loop-power in place_is c.args.whole l.place l.power l.invariant.0 l.invariant.1 l.invariant.2 c.loop-power-test.false
+pub returns-in_default : goal.returns-in_default
+returns-in_default c =
+    let r = c.ilog10.ensures in
+    omega (arith, log_below c.args.whole c.ilog10.result c.requires r.power_le, log_digits c.args.whole c.ilog10.result c.requires r.power_le r.next_power_gt)

@@ -1,8 +1,7 @@
 -- `millionths` meets its contract, by the ranges of the exponent's field. Assumes nothing.
-use mathlib.Core.Path.{◌≡◌, refl}
-use Prim.Native.Nat.{ℕ, ◌+◌, ◌-◌, ◌*◌, ◌/◌, ◌%◌, ◌^◌}
+use mathlib.Core.Path.{refl}
+use Prim.Native.Nat.{◌+◌, ◌-◌, ◌/◌, ◌%◌, ◌^◌}
 use native.Mathlib.Omega.{arith}
-use lib.Pow.{pow_pos, pow_mono}
 use Rattle.float64.proofs.Whole.{one_shifted}
 use Rattle.decimals.proofs.Sizes.{size_large, size_small, size-one, size_none, size_rounded}
 use Rattle.decimals.proofs.millionths.millionths.Goals as goal
@@ -23,19 +22,7 @@ returns-else-m-gt-LAST_BELOW_HALF c =
     let b = c.args.bits in
     size_none (b / 2 ^ 52) (b % 2 ^ 52) (2 ^ 52 + b % 2 ^ 52) c.if-field-eq-SMALL.true refl c.if-m-gt-LAST_BELOW_HALF.false
 
--- how far the unit is shifted
-abbrev shift : goal.After-product-p → ℕ
-shift c = 1066 - c.args.bits / 2 ^ 52
-
-unit_is : (c : goal.After-product-p) → 1 * 2 ^ shift c % 2 ^ 64 ≡ 2 ^ shift c
-unit_is c = one_shifted (shift c) (omega arith)
-
-pub nearest-requires : goal.nearest-requires
-nearest-requires c =
-    (rw (unit_is c) (pow_pos (shift c)), rw (unit_is c) (pow_mono {i = shift c} {j = 63} (omega arith)), c.product-p.ensures.1, c.product-p.ensures.2)
-
 pub returns : goal.returns
 returns c =
-    let p = c.before in
-    let b = p.args.bits in
-    size_rounded (b / 2 ^ 52) (b % 2 ^ 52) _ _ _ _ (omega arith) (omega arith) p.product-p.ensures.0 (unit_is p) c.nearest.ensures
+    let b = c.args.bits in
+    size_rounded (b / 2 ^ 52) (b % 2 ^ 52) _ _ _ _ (omega arith) (omega arith) c.product-p.ensures.0 (one_shifted (1066 - b / 2 ^ 52) (omega arith)) c.nearest.ensures

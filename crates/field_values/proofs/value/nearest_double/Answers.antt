@@ -4,17 +4,11 @@ use mathlib.Core.Bool.{false}
 use native.Mathlib.Omega.{arith}
 use native.Mathlib.Nat.{pow-le-pow_right, one-le-pow}
 use lib.Ieee.{binary64, round}
-use Rattle.field_values.proofs.Divide.{in_float_lem, divided}
+use Rattle.field_values.proofs.Divide.{divided}
 use Rattle.field_values.proofs.value.nearest_double.Goals as goal
 
 power_small : (r p : ℕ) → p ≤ 6 → r ≡ 10 ^ p → r ≤ 2 ^ 53
 power_small r p h e = omega (arith, pow-le-pow_right {n = 10} (omega arith) h)
-
-pub int_to_float-d : goal.int_to_float-d
-int_to_float-d c = in_float_lem _ c.requires.digits_bound
-
-pub int_to_float-p : goal.int_to_float-p
-int_to_float-p c = in_float_lem _ (power_small c.power_of_ten-p.result c.args.places c.requires.places_bound c.power_of_ten-p.ensures)
 
 pub returns : goal.returns
 returns c =
