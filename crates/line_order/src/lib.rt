@@ -3,4 +3,4 @@
 
 mod order;
 
-pub use order::{line_refusal, place_of};
+pub use order::{LineFault, check_line, place_of};

@@ -1,4 +1,5 @@
 -- No rule refuses the lines of an accepted grid and order. Assumes nothing.
+use Rattle.std.proofs.Common.{Option, Some}
 use Prim.Native.Nat.{ℕ, ◌+◌}
 use mathlib.Core.Path.{◌≡◌, refl, ◌∙◌, ap}
 use mathlib.Core.Bool.{Bool, true, false, not, ◌&&◌, ◌||◌, cond}
@@ -29,7 +30,7 @@ use Rattle.sheet_lines.specs.declared.line.SheetLine.{SheetLine}
 use Rattle.sheet_lines.specs.declared.line.SheetLine.TheVariants.{Times, Order, Cable}
 use Rattle.whole_sheets.specs.Sheets.{none, form_refusal, order_in, grid_in, bad_station, bad_cable, bad_breaker, first_bad, sheet_broken, shown_at, refusal_of, answered}
 use Rattle.printed_sheets.specs.Claims.{SameGrid}
-use Rattle.printed_sheets.proofs.Read.{station_said, breaker_said, part_lines, sheet_lines}
+use Rattle.printed_sheets.proofs.Read.{as_cable, station_said, breaker_said, part_lines, sheet_lines}
 
 -- ---- what an accepted grid and order have
 
@@ -60,21 +61,21 @@ module _ (g : DcSwitchingSimulator) (o : SweepOrder) (h : sweep_refusal g o ≡ 
 
 -- ---- no line is bad
 
-none_bad : {A : Type 0} (bad : SheetLine → Bool) (line : A → SheetLine) (ok : A → Bool) → ((x : A) → ok x ≡ true → bad (line x) ≡ false) → (xs : List A) (rest : List SheetLine) → every ok xs ≡ true
+none_bad : {A : Type 0} (bad : Option SheetLine → Bool) (line : A → Option SheetLine) (ok : A → Bool) → ((x : A) → ok x ≡ true → bad (line x) ≡ false) → (xs : List A) (rest : List (Option SheetLine)) → every ok xs ≡ true
     → ((k : ℕ) → first_bad bad k rest ≡ 0) → (k : ℕ) → first_bad bad k (map line xs ++ rest) ≡ 0
 none_bad bad line ok f [] rest h more k = more k
 none_bad bad line ok f (x ∷ xs) rest h more k =
     ap (λ t. cond t (k + 1) (first_bad bad (k + 1) (map line xs ++ rest))) (f x (left (ok x) (every ok xs) h))
     ∙ none_bad bad line ok f xs rest (right (ok x) (every ok xs) h) more (k + 1)
 
-module _ (bad : SheetLine → Bool) (no-times : (g : DcSwitchingSimulator) → bad (Times g.dt_us g.duration_ms) ≡ false) (no-order : (o : SweepOrder) → bad (Order o) ≡ false)
-    (station : (s : ConverterStation) → station_ok s ≡ true → bad (station_said s) ≡ false) (cable : (c : DcCable) → cable_ok c ≡ true → bad (Cable c) ≡ false) (breaker : (b : DcBreaker) → breaker_ok b ≡ true → bad (breaker_said b) ≡ false) where
+module _ (bad : Option SheetLine → Bool) (no-times : (g : DcSwitchingSimulator) → bad (Some (Times g.dt_us g.duration_ms)) ≡ false) (no-order : (o : SweepOrder) → bad (Some (Order o)) ≡ false)
+    (station : (s : ConverterStation) → station_ok s ≡ true → bad (station_said s) ≡ false) (cable : (c : DcCable) → cable_ok c ≡ true → bad (Some (Cable c)) ≡ false) (breaker : (b : DcBreaker) → breaker_ok b ≡ true → bad (breaker_said b) ≡ false) where
   no_line_bad : (g : DcSwitchingSimulator) (o : SweepOrder) → sweep_refusal g o ≡ 0 → first_bad bad 0 (sheet_lines g o) ≡ 0
   no_line_bad g o h =
-      ap (λ t. cond t 1 (first_bad bad 1 (Order o ∷ part_lines (stations_of g) (cables_of g) (breakers_of g)))) (no-times g)
+      ap (λ t. cond t 1 (first_bad bad 1 (Some (Order o) ∷ part_lines (stations_of g) (cables_of g) (breakers_of g)))) (no-times g)
       ∙ ap (λ t. cond t 2 (first_bad bad 2 (part_lines (stations_of g) (cables_of g) (breakers_of g)))) (no-order o)
-      ∙ none_bad bad station_said station_ok station (stations_of g) (map Cable (cables_of g) ++ (map breaker_said (breakers_of g) ++ [])) (stations_ok g o h)
-      (none_bad bad Cable cable_ok cable (cables_of g) (map breaker_said (breakers_of g) ++ []) (cables_ok g o h) (none_bad bad breaker_said breaker_ok breaker (breakers_of g) [] (breakers_ok g o h) (λ k. refl)))
+      ∙ none_bad bad station_said station_ok station (stations_of g) (map as_cable (cables_of g) ++ (map breaker_said (breakers_of g) ++ [])) (stations_ok g o h)
+      (none_bad bad as_cable cable_ok cable (cables_of g) (map breaker_said (breakers_of g) ++ []) (cables_ok g o h) (none_bad bad breaker_said breaker_ok breaker (breakers_of g) [] (breakers_ok g o h) (λ k. refl)))
       2
 
 -- ---- no rule is broken
@@ -97,7 +98,7 @@ same_rules x g s e k =
     e ∷
     [])
 
-module _ (ls : List SheetLine) (g : DcSwitchingSimulator) (o : SweepOrder) (same : SameGrid (grid_in ls) g) (same-order : order_in ls ≡ o)
+module _ (ls : List (Option SheetLine)) (g : DcSwitchingSimulator) (o : SweepOrder) (same : SameGrid (grid_in ls) g) (same-order : order_in ls ≡ o)
     (six : first_bad bad_station 0 ls ≡ 0) (seven : first_bad bad_cable 0 ls ≡ 0) (eight : first_bad bad_breaker 0 ls ≡ 0) where
   kept_rule : (k : ℕ) → not (broken g (not (order_ok o)) k) ≡ true → not (sheet_broken ls k) ≡ true
   unfolding sheet_broken

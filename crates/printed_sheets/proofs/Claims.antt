@@ -12,8 +12,7 @@ use Rattle.rules.specs.Studies.{sweep_refusal}
 use Rattle.rule_claims.specs.Claims.{Sizes}
 use Rattle.rule_claims.proofs.Sizes.{size_claims}
 use Rattle.field_columns.specs.declared.fields.Decimal.{Decimal}
-use Rattle.whole_sheets.specs.Sheets.{none, order_in, grid_in, refusal_of, answered, sheet_answer}
-use Rattle.whole_sheets.specs.declared.answers.SheetAnswer.{SheetAnswer}
+use Rattle.whole_sheets.specs.Sheets.{SheetAnswer, none, order_in, grid_in, refusal_of, answered, sheet_answer}
 use Rattle.printed_sheets.specs.Printing.{printed_sheet}
 use Rattle.printed_sheets.specs.Claims.{SixPlaces, Made, SameGrid, ReadsBack, RoundTripClaims}
 use Rattle.printed_sheets.proofs.Read.{sheet_lines, read_as, lines_few}

@@ -1,4 +1,5 @@
 -- The order of a printed sheet's lines, and the grid and the order that they make. Assumes nothing.
+use Rattle.std.proofs.Common.{Option, Some}
 use Prim.Native.Nat.{ℕ, zero, suc, ◌+◌, ◌-◌, ◌≤◌, ◌<◌}
 use mathlib.Core.Path.{◌≡◌, refl, sym, ◌∙◌, ap}
 use mathlib.Core.Bool.{cond}
@@ -20,7 +21,7 @@ use Rattle.sheet_lines.specs.declared.line.SheetLine.TheVariants.{Cable}
 use Rattle.line_order.specs.Ordered.{place_of, in_order, line_refusal}
 use Rattle.whole_sheets.specs.Sheets.{none, refused, form_refusal, stations_in, cables_in, breakers_in, new_from, order_from, order_in, laid, grid_in}
 use Rattle.printed_sheets.specs.Claims.{Made, SameGrid, BlankPast}
-use Rattle.printed_sheets.proofs.Read.{station_said, breaker_said, part_lines, sheet_lines}
+use Rattle.printed_sheets.proofs.Read.{as_cable, station_said, breaker_said, part_lines, sheet_lines}
 
 -- ---- the order of the lines
 
@@ -31,7 +32,7 @@ in_place k before place a b c d =
     rw (ne_eqb place 5 no, le-ltb k 2 a, le-leb 2 place c, le-leb before place b)
 
 -- lines of one place, behind lines of an earlier one
-lines_ordered : {A : Type 0} (line : A → SheetLine) (place : ℕ) → ((x : A) → place_of (line x) ≡ place) → 2 ≤ place → place < 5 → (xs : List A) (rest : List SheetLine)
+lines_ordered : {A : Type 0} (line : A → Option SheetLine) (place : ℕ) → ((x : A) → place_of (line x) ≡ place) → 2 ≤ place → place < 5 → (xs : List A) (rest : List (Option SheetLine))
     → ((k before : ℕ) → 2 ≤ k → before ≤ place → form_refusal k before rest ≡ none) → (k before : ℕ) → 2 ≤ k → before ≤ place → form_refusal k before (map line xs ++ rest) ≡ none
 lines_ordered line place at c d [] rest more k before a b = more k before a b
 lines_ordered line place at c d (x ∷ xs) rest more k before a b =
@@ -41,8 +42,8 @@ lines_ordered line place at c d (x ∷ xs) rest more k before a b =
 
 parts_ordered : (ss : List ConverterStation) (cs : List DcCable) (bs : List DcBreaker) → form_refusal 2 1 (part_lines ss cs bs) ≡ none
 parts_ordered ss cs bs =
-    lines_ordered station_said 2 (λ s. refl) (omega arith) (omega arith) ss (map Cable cs ++ (map breaker_said bs ++ []))
-    (λ k before a b. lines_ordered Cable 3 (λ c. refl) (omega arith) (omega arith) cs (map breaker_said bs ++ [])
+    lines_ordered station_said 2 (λ s. refl) (omega arith) (omega arith) ss (map as_cable cs ++ (map breaker_said bs ++ []))
+    (λ k before a b. lines_ordered as_cable 3 (λ c. refl) (omega arith) (omega arith) cs (map breaker_said bs ++ [])
     (λ k before a b. lines_ordered breaker_said 4 (λ b. refl) (omega arith) (omega arith) bs [] (λ k before a b. rw (le-ltb k 2 a)) k before a (omega arith)) k before a (omega arith))
     2 1 (omega arith) (omega arith)
 
@@ -53,47 +54,47 @@ lines_in_order g o = parts_ordered (stations_of g) (cables_of g) (breakers_of g)
 -- ---- what the lines hold
 
 -- lines that a scan of them passes by, and lines of which it keeps the part
-passed_by : {A B : Type 0} (scan : List SheetLine → B) (line : A → SheetLine) → ((x : A) (ls : List SheetLine) → scan (line x ∷ ls) ≡ scan ls) → (xs : List A) (rest : List SheetLine) → scan (map line xs ++ rest) ≡ scan rest
+passed_by : {A B : Type 0} (scan : List (Option SheetLine) → B) (line : A → Option SheetLine) → ((x : A) (ls : List (Option SheetLine)) → scan (line x ∷ ls) ≡ scan ls) → (xs : List A) (rest : List (Option SheetLine)) → scan (map line xs ++ rest) ≡ scan rest
 passed_by scan line h [] rest = refl
 passed_by scan line h (x ∷ xs) rest = h x (map line xs ++ rest) ∙ passed_by scan line h xs rest
 
-kept : {A : Type 0} (scan : List SheetLine → List A) (line : A → SheetLine) → ((x : A) (ls : List SheetLine) → scan (line x ∷ ls) ≡ x ∷ scan ls) → (xs : List A) (rest : List SheetLine) → scan (map line xs ++ rest) ≡ xs ++ scan rest
+kept : {A : Type 0} (scan : List (Option SheetLine) → List A) (line : A → Option SheetLine) → ((x : A) (ls : List (Option SheetLine)) → scan (line x ∷ ls) ≡ x ∷ scan ls) → (xs : List A) (rest : List (Option SheetLine)) → scan (map line xs ++ rest) ≡ xs ++ scan rest
 kept scan line h [] rest = refl
 kept scan line h (x ∷ xs) rest = h x (map line xs ++ rest) ∙ ap (λ ys. x ∷ ys) (kept scan line h xs rest)
 
 module _ (ss : List ConverterStation) (cs : List DcCable) (bs : List DcBreaker) where
-  abbrev cable_lines : List SheetLine
-  cable_lines = map Cable cs ++ (map breaker_said bs ++ [])
+  abbrev cable_lines : List (Option SheetLine)
+  cable_lines = map as_cable cs ++ (map breaker_said bs ++ [])
 
-  parts_passed : {B : Type 0} (scan : List SheetLine → B)
-      → ((x : ConverterStation) (ls : List SheetLine) → scan (station_said x ∷ ls) ≡ scan ls)
-      → ((x : DcCable) (ls : List SheetLine) → scan (Cable x ∷ ls) ≡ scan ls)
-      → ((x : DcBreaker) (ls : List SheetLine) → scan (breaker_said x ∷ ls) ≡ scan ls)
+  parts_passed : {B : Type 0} (scan : List (Option SheetLine) → B)
+      → ((x : ConverterStation) (ls : List (Option SheetLine)) → scan (station_said x ∷ ls) ≡ scan ls)
+      → ((x : DcCable) (ls : List (Option SheetLine)) → scan (Some (Cable x) ∷ ls) ≡ scan ls)
+      → ((x : DcBreaker) (ls : List (Option SheetLine)) → scan (breaker_said x ∷ ls) ≡ scan ls)
       → scan (part_lines ss cs bs) ≡ scan []
-  parts_passed scan a b c = passed_by scan station_said a ss cable_lines ∙ passed_by scan Cable b cs (map breaker_said bs ++ []) ∙ passed_by scan breaker_said c bs []
+  parts_passed scan a b c = passed_by scan station_said a ss cable_lines ∙ passed_by scan as_cable b cs (map breaker_said bs ++ []) ∙ passed_by scan breaker_said c bs []
 
   stations_held : stations_in (part_lines ss cs bs) ≡ ss
   stations_held =
       kept stations_in station_said (λ x ls. refl) ss cable_lines
-      ∙ ap (λ ys. ss ++ ys) (passed_by stations_in Cable (λ x ls. refl) cs (map breaker_said bs ++ []) ∙ passed_by stations_in breaker_said (λ x ls. refl) bs [])
+      ∙ ap (λ ys. ss ++ ys) (passed_by stations_in as_cable (λ x ls. refl) cs (map breaker_said bs ++ []) ∙ passed_by stations_in breaker_said (λ x ls. refl) bs [])
       ∙ append-nil ss
 
   cables_held : cables_in (part_lines ss cs bs) ≡ cs
   cables_held =
       passed_by cables_in station_said (λ x ls. refl) ss cable_lines
-      ∙ kept cables_in Cable (λ x ls. refl) cs (map breaker_said bs ++ [])
+      ∙ kept cables_in as_cable (λ x ls. refl) cs (map breaker_said bs ++ [])
       ∙ ap (λ ys. cs ++ ys) (passed_by cables_in breaker_said (λ x ls. refl) bs [])
       ∙ append-nil cs
 
   breakers_held : breakers_in (part_lines ss cs bs) ≡ bs
   breakers_held =
       passed_by breakers_in station_said (λ x ls. refl) ss cable_lines
-      ∙ passed_by breakers_in Cable (λ x ls. refl) cs (map breaker_said bs ++ [])
+      ∙ passed_by breakers_in as_cable (λ x ls. refl) cs (map breaker_said bs ++ [])
       ∙ kept breakers_in breaker_said (λ x ls. refl) bs []
       ∙ append-nil bs
 
 -- what lines hold of a grid
-pub record Holds (ls : List SheetLine) (g : DcSwitchingSimulator) : Type 0 where
+pub record Holds (ls : List (Option SheetLine)) (g : DcSwitchingSimulator) : Type 0 where
   pub new : new_from (new_simulator nought nought) ls ≡ new_simulator g.dt_us g.duration_ms
   pub stations : stations_in ls ≡ stations_of g
   pub cables : cables_in ls ≡ cables_of g
@@ -132,7 +133,7 @@ laid_again z m n l w h e =
 laid_front : {A : Type 0} (m : ℕ) (z : A) (xs : List A) → length xs ≤ m → take (length xs) (laid m z xs) ≡ xs
 laid_front m z xs h = take-take (length xs) m (xs ++ replicate m z) (omega arith) ∙ take-append-le (length xs) xs (replicate m z) (omega arith) ∙ take_all (length xs) xs (omega arith)
 
-module _ (ls : List SheetLine) (g : DcSwitchingSimulator) (h : Holds ls g) (made : Made g) where
+module _ (ls : List (Option SheetLine)) (g : DcSwitchingSimulator) (h : Holds ls g) (made : Made g) where
   dt_held : (new_from (new_simulator nought nought) ls).dt_us ≡ g.dt_us
   unfolding new_simulator
   dt_held = ap (λ (x : DcSwitchingSimulator). x.dt_us) h.new ∙ made.dt_us

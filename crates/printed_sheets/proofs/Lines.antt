@@ -11,16 +11,16 @@ use lib.Seq.{take_at, drop-append-add, get_or-append_seam}
 use borrow.Author.Tests.{eq-eqb, ne_eqb, eqb-true, ltb-true, not-true, not-false}
 use Rattle.lists.specs.Scans.{every, some, each}
 use Rattle.lists.proofs.Scanning.{left, right, both, every_of}
+use Rattle.std.specs.Prelude.{Some, None, is_some, unwrap_or}
+use Rattle.float64.specs.Constants.{nought}
 use Rattle.field_columns.specs.Fields.{is_digit, some_digits, whole_of, real_of, as_whole, value_of}
 use Rattle.printed_numbers.specs.Printed.{printed_decimal}
 use Rattle.column_claims.specs.Claims.{Plain, Pointed}
 use Rattle.field_columns.specs.declared.fields.Decimal.{Decimal}
-use Rattle.field_columns.specs.declared.fields.WholeField.TheVariants.{Whole, Wrong}
-use Rattle.field_columns.specs.declared.fields.RealField.TheVariants.{Real}
 use Rattle.field_columns.proofs.Digit.{digit_at_least}
 use Rattle.column_claims.proofs.RoundTrip.{form, decimal_back, real_back, length_printed}
 use Rattle.sheet_lines.specs.Fields as read
-use Rattle.sheet_lines.specs.Fields.{columns_of, is_whole, is_real, found, length_of, formed, whole_in, real_in}
+use Rattle.sheet_lines.specs.Fields.{columns_of, is_whole, is_real, length_of, formed}
 use Rattle.sheet_lines.specs.declared.fields.Form.{Form}
 use Rattle.sheet_lines.proofs.WrongLines.{feedless}
 use Rattle.whole_sheets.specs.Sheets.{lines_of, before}
@@ -112,10 +112,10 @@ all_at P z [] k h l = absurd (omega arith)
 all_at P z (x ∷ xs) zero h l = h.0
 all_at P z (x ∷ xs) (suc k) h l = all_at P z xs k h.1 (omega arith)
 
-whole_printed : (d : Decimal) → Fits d → d.places ≡ 0 → whole_of (printed_decimal d.digits d.places) ≡ Whole d.digits
+whole_printed : (d : Decimal) → Fits d → d.places ≡ 0 → whole_of (printed_decimal d.digits d.places) ≡ Some d.digits
 unfolding whole_of
 whole_printed d f e =
-    ap as_whole (decimal_back d.digits d.places f.places_most f.digits_held) ∙ ap (λ t. cond t (Whole d.digits) Wrong) (eq-eqb d.places 0 e)
+    ap as_whole (decimal_back d.digits d.places f.places_most f.digits_held) ∙ ap (λ t. cond t (Some d.digits) None) (eq-eqb d.places 0 e)
 
 -- each of some numbers: where one test passes, another does
 each_of : (f g : ℕ → Bool) → ((k : ℕ) → f k ≡ true → g k ≡ true) → (n : ℕ) → each n f ≡ true → each n g ≡ true
@@ -135,24 +135,24 @@ module _ (letter : ℕ) (ds : List Decimal) (fit : All Fits ds) where
   fits_at : (k : ℕ) → k < length ds → Fits (the k)
   fits_at k h = all_at Fits (whole 0) ds k fit h
 
-  real_field : (k : ℕ) → k < length ds → real_of (columns_of (printed_line letter ds) k) ≡ Real (value_of (the k))
+  real_field : (k : ℕ) → k < length ds → real_of (columns_of (printed_line letter ds) k) ≡ Some (value_of (the k))
   real_field k h = ap real_of (columns_are letter ds k h) ∙ real_back (the k).digits (the k).places (fits_at k h).places_most (fits_at k h).digits_held
 
-  whole_field : (k : ℕ) → k < length ds → (the k).places ≡ 0 → whole_of (columns_of (printed_line letter ds) k) ≡ Whole (the k).digits
+  whole_field : (k : ℕ) → k < length ds → (the k).places ≡ 0 → whole_of (columns_of (printed_line letter ds) k) ≡ Some (the k).digits
   whole_field k h e = ap whole_of (columns_are letter ds k h) ∙ whole_printed (the k) (fits_at k h) e
 
   -- field k has a number, and this one
   pub real_there : (k : ℕ) → k < length ds → is_real (printed_line letter ds) k ≡ true
-  real_there k h = ap read.read (real_field k h)
+  real_there k h = ap is_some (real_field k h)
 
   pub real_read : (k : ℕ) → k < length ds → read.real (printed_line letter ds) k ≡ value_of (the k)
-  real_read k h = ap real_in (real_field k h)
+  real_read k h = ap (λ x. unwrap_or x nought) (real_field k h)
 
   pub whole_there : (k : ℕ) → k < length ds → (the k).places ≡ 0 → is_whole (printed_line letter ds) k ≡ true
-  whole_there k h e = ap found (whole_field k h e)
+  whole_there k h e = ap is_some (whole_field k h e)
 
   pub whole-read : (k : ℕ) → k < length ds → (the k).places ≡ 0 → read.whole (printed_line letter ds) k ≡ (the k).digits
-  whole-read k h e = ap whole_in (whole_field k h e)
+  whole-read k h e = ap (λ n. unwrap_or n 0) (whole_field k h e)
 
   -- ---- the form
 

@@ -1,25 +1,26 @@
 -- What `new` makes has the code's lengths, the times that it keeps and blanks past the counts, and so has a grid with a part more. Assumes nothing.
-use Prim.Native.Nat.{ℕ, suc, ◌+◌, ◌-◌, ◌<◌, ◌≤◌}
+use Prim.Native.Nat.{ℕ, suc, ◌+◌, ◌-◌, ◌<◌}
 use mathlib.Core.Path.{◌≡◌, refl, sym, ◌∙◌, ap}
 use mathlib.Core.Logic.{◌⊎◌, inl, inr, ⊎_elim}
 use mathlib.Core.Bool.{Bool, true, false, cond}
-use mathlib.Core.List.{List, [], ◌∷◌}
+use mathlib.Core.List.{List}
 use native.Mathlib.Omega.{arith}
 use native.Mathlib.Numerals.{add-one}
 use lib.Dec.{ltb}
-use lib.ListN.{length, drop, set, get_or, replicate, length-set}
+use lib.ListN.{length, drop, set, replicate, length-set}
 use lib.Seq.{drop-cons, drop-set-lt}
 use lib.Ieee.{Float, of_bits, of_int, round, is_nan, le, lt, eq}
 use borrow.Author.Tests.{ltb-true}
+use Rattle.std.specs.Prelude.{Some, None}
+use Rattle.std.specs.Option.{unwrap_or}
 use Rattle.float64.specs.Choice.{max_of}
 use Rattle.ranges.specs.Ranges as range
 use Rattle.ranges.specs.Ranges.{real_in}
-use Rattle.grid.specs.Simulator.{blank_station, blank_cable, blank_breaker, least_time_step, least_duration, kept_time_step, kept_duration, new_simulator, added, without_room, with_station, with_cable, with_breaker}
+use Rattle.grid.specs.Simulator.{blank_station, blank_cable, blank_breaker, least_time_step, least_duration, kept_time_step, kept_duration, new_simulator, with_station, with_cable, with_breaker}
 use Rattle.grid.specs.declared.parts.ConverterStation.{ConverterStation}
 use Rattle.grid.specs.declared.parts.DcCable.{DcCable}
 use Rattle.grid.specs.declared.parts.DcBreaker.{DcBreaker}
 use Rattle.grid.specs.declared.simulator.DcSwitchingSimulator.{DcSwitchingSimulator}
-use Rattle.grid.specs.declared.simulator.Added.{Added}
 use Rattle.printed_sheets.specs.Claims.{Made, BlankPast, MadeClaims}
 
 -- ---- what is kept of a time is kept again
@@ -70,11 +71,11 @@ blanks_more z x m n l w h e =
 
 module _ (g : DcSwitchingSimulator) (made : Made g) (blank : BlankPast g) where
   -- the grid with the part, or the same grid
-  kept_by : (t : Bool) (x : DcSwitchingSimulator) → (t ≡ true → Made x × BlankPast x) → Made (cond t (added x) (without_room g)).grid × BlankPast (cond t (added x) (without_room g)).grid
+  kept_by : (t : Bool) (x : DcSwitchingSimulator) → (t ≡ true → Made x × BlankPast x) → Made (unwrap_or (cond t (Some x) None) g) × BlankPast (unwrap_or (cond t (Some x) None) g)
   kept_by true x f = f refl
   kept_by false x f = (made, blank)
 
-  station_made : (s : ConverterStation) → Made (with_station g s).grid × BlankPast (with_station g s).grid
+  station_made : (s : ConverterStation) → Made (unwrap_or (with_station g s) g) × BlankPast (unwrap_or (with_station g s) g)
   unfolding with_station
   station_made s =
       kept_by (ltb g.n_stations 32) _
@@ -83,7 +84,7 @@ module _ (g : DcSwitchingSimulator) (made : Made g) (blank : BlankPast g) where
         record { stations = blanks_more blank_station s 32 g.n_stations g.stations made.stations (ltb-true g.n_stations 32 h) blank.stations; cables = blank.cables; breakers = blank.breakers },
       ))
 
-  cable_made : (c : DcCable) → Made (with_cable g c).grid × BlankPast (with_cable g c).grid
+  cable_made : (c : DcCable) → Made (unwrap_or (with_cable g c) g) × BlankPast (unwrap_or (with_cable g c) g)
   unfolding with_cable
   cable_made c =
       kept_by (ltb g.n_cables 64) _
@@ -92,7 +93,7 @@ module _ (g : DcSwitchingSimulator) (made : Made g) (blank : BlankPast g) where
         record { stations = blank.stations; cables = blanks_more blank_cable c 64 g.n_cables g.cables made.cables (ltb-true g.n_cables 64 h) blank.cables; breakers = blank.breakers },
       ))
 
-  breaker_made : (b : DcBreaker) → Made (with_breaker g b).grid × BlankPast (with_breaker g b).grid
+  breaker_made : (b : DcBreaker) → Made (unwrap_or (with_breaker g b) g) × BlankPast (unwrap_or (with_breaker g b) g)
   unfolding with_breaker
   breaker_made b =
       kept_by (ltb g.n_breakers 32) _

@@ -1,8 +1,9 @@
 -- Each printed line says its part. Assumes nothing.
+use Rattle.std.proofs.Common.{Option, Some, None}
 use Prim.Native.Nat.{ℕ, ◌<◌}
 use mathlib.Core.Path.{◌≡◌, refl, ◌∙◌, ap}
 use mathlib.Core.Bool.{true, false, not, ◌&&◌, ◌||◌, cond}
-use mathlib.Core.List.{List, [], ◌∷◌, ◌++◌}
+use mathlib.Core.List.{List, ◌∷◌, ◌++◌}
 use native.Mathlib.Omega.{arith}
 use lib.Dec.{eqb, leb}
 use lib.ListN.{get_or}
@@ -23,7 +24,7 @@ use Rattle.field_columns.specs.declared.fields.Decimal.{Decimal}
 use Rattle.sheet_lines.specs.Fields as read
 use Rattle.sheet_lines.specs.Lines.{letter_t, letter_o, letter_s, letter_c, letter_b, times_form, order_form, station_form, cable_form, breaker_form, times_line, order_line, station_line, cable_line, breaker_line, order_in, topology_of, station_in, station_known, cable_in, breaker_type_of, breaker_in, breaker_known, line_of}
 use Rattle.sheet_lines.specs.declared.line.SheetLine.{SheetLine}
-use Rattle.sheet_lines.specs.declared.line.SheetLine.TheVariants.{Times, Order, Station, Cable, Breaker, Wrong}
+use Rattle.sheet_lines.specs.declared.line.SheetLine.TheVariants.{Times, Order, Station, Cable, Breaker}
 use Rattle.whole_sheets.specs.Sheets.{lines_of}
 use Rattle.printed_sheets.specs.Printing.{whole, printed_line, topology_number, submodules_in, kind_number, breaker_time, second_number, times_fields, order_fields, station_fields, cable_fields, breaker_fields, station_text, cable_text, breaker_text}
 use Rattle.printed_sheets.specs.Claims.{Fits, All, Spelled, SpelledStation, SpelledCable, SpelledType, SpelledBreaker}
@@ -31,7 +32,7 @@ use Rattle.printed_sheets.proofs.Lines.{line_ends, real_read, whole-read, line-f
 use Rattle.printed_sheets.proofs.Whole.{whole_fits, topology_fits, kind_fits, station_wholes, cable_wholes, breaker_wholes, order_wholes}
 
 -- a text that is one line, whatever stands behind it, and what it says
-pub record Says (text : List ℕ) (line : SheetLine) : Type 0 where
+pub record Says (text : List ℕ) (line : Option SheetLine) : Type 0 where
   pub ends : (rest : List ℕ) → lines_of (text ++ rest) ≡ text ∷ lines_of rest
   pub says : line_of text ≡ line
 
@@ -47,17 +48,17 @@ module _ (spell : Float → Decimal) (dt duration : Float) (p : Spelled spell dt
   times_fit : All Fits times_ds
   times_fit = (p.fits, (q.fits, tt))
 
-  times_line_lem : times_line times_text ≡ Times dt duration
+  times_line_lem : times_line times_text ≡ (Some (Times dt duration))
   unfolding times_line
   times_line_lem =
-      ap (λ t. cond t (Times (read.real times_text 0) (read.real times_text 1)) Wrong) (line-formed letter_t times_ds times_fit times_form refl refl refl)
-      ∙ λ i. Times ((real_read letter_t times_ds times_fit 0 (omega arith) ∙ p.value) i) ((real_read letter_t times_ds times_fit 1 (omega arith) ∙ q.value) i)
+      ap (λ t. cond t (Some (Times (read.real times_text 0) (read.real times_text 1))) None) (line-formed letter_t times_ds times_fit times_form refl refl refl)
+      ∙ λ i. (Some (Times ((real_read letter_t times_ds times_fit 0 (omega arith) ∙ p.value) i) ((real_read letter_t times_ds times_fit 1 (omega arith) ∙ q.value) i)))
 
-  times_of : line_of times_text ≡ Times dt duration
+  times_of : line_of times_text ≡ (Some (Times dt duration))
   unfolding line_of
   times_of = rw (letter_is letter_t times_ds) times_line_lem
 
-  pub times_said : Says (printed_line letter_t (times_fields spell dt duration)) (Times dt duration)
+  pub times_said : Says (printed_line letter_t (times_fields spell dt duration)) (Some (Times dt duration))
   times_said = record { ends = λ rest. line_ends letter_t times_ds rest refl times_fit; says = times_of }
 
 -- ---- O
@@ -81,15 +82,15 @@ module _ (spell : Float → Decimal) (o : SweepOrder) (p : Spelled spell o.fault
         high_tenth = whole-read letter_o order_ds order_fit 3 (omega arith) refl i;
       }
 
-  order-line : order_line order_text ≡ Order o
+  order-line : order_line order_text ≡ (Some (Order o))
   unfolding order_line
-  order-line = ap (λ t. cond t (Order (order_in order_text)) Wrong) (line-formed letter_o order_ds order_fit order_form refl refl refl) ∙ ap Order order-read
+  order-line = ap (λ t. cond t (Some (Order (order_in order_text))) None) (line-formed letter_o order_ds order_fit order_form refl refl refl) ∙ ap (λ (x : SweepOrder). Some (Order x)) order-read
 
-  order_of : line_of order_text ≡ Order o
+  order_of : line_of order_text ≡ (Some (Order o))
   unfolding line_of
   order_of = rw (letter_is letter_o order_ds) order-line
 
-  pub order-said : Says (printed_line letter_o (order_fields spell o)) (Order o)
+  pub order-said : Says (printed_line letter_o (order_fields spell o)) (Some (Order o))
   order-said = record { ends = λ rest. line_ends letter_o order_ds rest refl order_fit; says = order_of }
 
 -- ---- S
@@ -144,17 +145,17 @@ module _ (spell : Float → Decimal) (s : ConverterStation) (p : SpelledStation 
       (λ i. leb (station_whole 0 (omega arith) refl i) 3 && (eqb (station_whole 1 (omega arith) refl i) 0 || eqb (station_whole 0 (omega arith) refl i) 2))
       ∙ topology_known s.topology
 
-  station_line_lem : station_line station_text_lem ≡ Station s true
+  station_line_lem : station_line station_text_lem ≡ (Some (Station s true))
   unfolding station_line
   station_line_lem =
-      ap (λ t. cond t (Station (station_in station_text_lem) (station_known station_text_lem)) Wrong) (line-formed letter_s station_ds station_fit station_form refl refl refl)
-      ∙ λ i. Station (station_read i) (station_known_lem i)
+      ap (λ t. cond t (Some (Station (station_in station_text_lem) (station_known station_text_lem))) None) (line-formed letter_s station_ds station_fit station_form refl refl refl)
+      ∙ λ i. (Some (Station (station_read i) (station_known_lem i)))
 
-  station_of : line_of station_text_lem ≡ Station s true
+  station_of : line_of station_text_lem ≡ (Some (Station s true))
   unfolding line_of
   station_of = rw (letter_is letter_s station_ds) station_line_lem
 
-  pub station_said_lem : Says (station_text spell s) (Station s true)
+  pub station_said_lem : Says (station_text spell s) (Some (Station s true))
   station_said_lem = record { ends = λ rest. line_ends letter_s station_ds rest refl station_fit; says = station_of }
 
 -- ---- C
@@ -184,15 +185,15 @@ module _ (spell : Float → Decimal) (c : DcCable) (p : SpelledCable spell c) (h
         length_km = (cable_real 6 (omega arith) ∙ p.length_km.value) i;
       }
 
-  cable_line_lem : cable_line cable_text_lem ≡ Cable c
+  cable_line_lem : cable_line cable_text_lem ≡ (Some (Cable c))
   unfolding cable_line
-  cable_line_lem = ap (λ t. cond t (Cable (cable_in cable_text_lem)) Wrong) (line-formed letter_c cable_ds cable_fit cable_form refl refl refl) ∙ ap Cable cable_read
+  cable_line_lem = ap (λ t. cond t (Some (Cable (cable_in cable_text_lem))) None) (line-formed letter_c cable_ds cable_fit cable_form refl refl refl) ∙ ap (λ (x : DcCable). Some (Cable x)) cable_read
 
-  cable_of_lem : line_of cable_text_lem ≡ Cable c
+  cable_of_lem : line_of cable_text_lem ≡ (Some (Cable c))
   unfolding line_of
   cable_of_lem = rw (letter_is letter_c cable_ds) cable_line_lem
 
-  pub cable_said : Says (cable_text spell c) (Cable c)
+  pub cable_said : Says (cable_text spell c) (Some (Cable c))
   cable_said = record { ends = λ rest. line_ends letter_c cable_ds rest refl cable_fit; says = cable_of_lem }
 
 -- ---- B
@@ -252,15 +253,15 @@ module _ (spell : Float → Decimal) (b : DcBreaker) (p : SpelledBreaker spell b
       (λ i. leb (breaker_whole 2 (omega arith) refl i) 2 && (eq (breaker_real 4 (omega arith) i) nought || not (eqb (breaker_whole 2 (omega arith) refl i) 0)))
       ∙ type_known spell b.breaker_type
 
-  breaker_line_lem : breaker_line breaker_text_lem ≡ Breaker b true
+  breaker_line_lem : breaker_line breaker_text_lem ≡ (Some (Breaker b true))
   unfolding breaker_line
   breaker_line_lem =
-      ap (λ t. cond t (Breaker (breaker_in breaker_text_lem) (breaker_known breaker_text_lem)) Wrong) (line-formed letter_b breaker_ds breaker_fit breaker_form refl refl refl)
-      ∙ λ i. Breaker (breaker_read i) (breaker_known_lem i)
+      ap (λ t. cond t (Some (Breaker (breaker_in breaker_text_lem) (breaker_known breaker_text_lem))) None) (line-formed letter_b breaker_ds breaker_fit breaker_form refl refl refl)
+      ∙ λ i. (Some (Breaker (breaker_read i) (breaker_known_lem i)))
 
-  breaker_of : line_of breaker_text_lem ≡ Breaker b true
+  breaker_of : line_of breaker_text_lem ≡ (Some (Breaker b true))
   unfolding line_of
   breaker_of = rw (letter_is letter_b breaker_ds) breaker_line_lem
 
-  pub breaker_said_lem : Says (breaker_text spell b) (Breaker b true)
+  pub breaker_said_lem : Says (breaker_text spell b) (Some (Breaker b true))
   breaker_said_lem = record { ends = λ rest. line_ends letter_b breaker_ds rest refl breaker_fit; says = breaker_of }

@@ -1,4 +1,5 @@
 -- What the lines of a printed sheet say. Assumes nothing.
+use Rattle.std.proofs.Common.{Option, Some}
 use Prim.Native.Nat.{ℕ, ◌≤◌}
 use mathlib.Core.Path.{◌≡◌, refl, sym, ◌∙◌, ap}
 use mathlib.Core.Bool.{Bool, true}
@@ -27,28 +28,31 @@ use Rattle.printed_sheets.proofs.Parts.{Says, times_said, order-said, station_sa
 
 -- ---- the lines that a grid and an order are printed as
 
-abbrev pub station_said : ConverterStation → SheetLine
-station_said s = Station s true
+abbrev pub station_said : ConverterStation → Option SheetLine
+station_said s = Some (Station s true)
 
-abbrev pub breaker_said : DcBreaker → SheetLine
-breaker_said b = Breaker b true
+abbrev pub as_cable : DcCable → Option SheetLine
+as_cable c = Some (Cable c)
+
+abbrev pub breaker_said : DcBreaker → Option SheetLine
+breaker_said b = Some (Breaker b true)
 
 -- the S, C and B lines
-abbrev pub part_lines : List ConverterStation → List DcCable → List DcBreaker → List SheetLine
-part_lines ss cs bs = map station_said ss ++ (map Cable cs ++ (map breaker_said bs ++ []))
+abbrev pub part_lines : List ConverterStation → List DcCable → List DcBreaker → List (Option SheetLine)
+part_lines ss cs bs = map station_said ss ++ (map as_cable cs ++ (map breaker_said bs ++ []))
 
-abbrev pub sheet_lines : DcSwitchingSimulator → SweepOrder → List SheetLine
-sheet_lines g o = Times g.dt_us g.duration_ms ∷ Order o ∷ part_lines (stations_of g) (cables_of g) (breakers_of g)
+abbrev pub sheet_lines : DcSwitchingSimulator → SweepOrder → List (Option SheetLine)
+sheet_lines g o = (Some (Times g.dt_us g.duration_ms)) ∷ (Some (Order o)) ∷ part_lines (stations_of g) (cables_of g) (breakers_of g)
 
 -- ---- a text of lines
 
-abbrev said_by : List ℕ → List SheetLine
+abbrev said_by : List ℕ → List (Option SheetLine)
 said_by text = map line_of (lines_of text)
 
-line-said : (text rest : List ℕ) (line : SheetLine) → Says text line → said_by (text ++ rest) ≡ line ∷ said_by rest
+line-said : (text rest : List ℕ) (line : Option SheetLine) → Says text line → said_by (text ++ rest) ≡ line ∷ said_by rest
 line-said text rest line h = ap (map line_of) (h.ends rest) ∙ ap (λ l. l ∷ said_by rest) h.says
 
-lines_said : {A : Type 0} (text : A → List ℕ) (line : A → SheetLine) (xs : List A) (rest : List ℕ) → All (λ x. Says (text x) (line x)) xs → said_by (joined (map text xs) ++ rest) ≡ map line xs ++ said_by rest
+lines_said : {A : Type 0} (text : A → List ℕ) (line : A → Option SheetLine) (xs : List A) (rest : List ℕ) → All (λ x. Says (text x) (line x)) xs → said_by (joined (map text xs) ++ rest) ≡ map line xs ++ said_by rest
 lines_said text line [] rest h = refl
 lines_said text line (x ∷ xs) rest h =
     ap said_by (append_assoc (text x) (joined (map text xs)) rest)
@@ -77,9 +81,9 @@ module _ (spell : Float → Decimal) (g : DcSwitchingSimulator) (o : SweepOrder)
   stations_said rest =
       lines_said (station_text spell) station_said (stations_of g) rest (all_of station_ok (SpelledStation spell) (λ s. Says (station_text spell s) (station_said s)) (station_said_lem spell) (stations_of g) p.stations stations_ok)
 
-  cables_said : (rest : List ℕ) → said_by (cables_text ++ rest) ≡ map Cable (cables_of g) ++ said_by rest
+  cables_said : (rest : List ℕ) → said_by (cables_text ++ rest) ≡ map as_cable (cables_of g) ++ said_by rest
   cables_said rest =
-      lines_said (cable_text spell) Cable (cables_of g) rest (all_of cable_ok (SpelledCable spell) (λ c. Says (cable_text spell c) (Cable c)) (cable_said spell) (cables_of g) p.cables cables_ok)
+      lines_said (cable_text spell) as_cable (cables_of g) rest (all_of cable_ok (SpelledCable spell) (λ c. Says (cable_text spell c) (Some (Cable c))) (cable_said spell) (cables_of g) p.cables cables_ok)
 
   breakers_said : said_by breakers_text ≡ map breaker_said (breakers_of g) ++ []
   breakers_said =
@@ -89,16 +93,16 @@ module _ (spell : Float → Decimal) (g : DcSwitchingSimulator) (o : SweepOrder)
   parts_said : said_by (stations_text ++ (cables_text ++ breakers_text)) ≡ part_lines (stations_of g) (cables_of g) (breakers_of g)
   parts_said =
       stations_said (cables_text ++ breakers_text)
-      ∙ ap (λ ls. map station_said (stations_of g) ++ ls) (cables_said breakers_text ∙ ap (λ ls. map Cable (cables_of g) ++ ls) breakers_said)
+      ∙ ap (λ ls. map station_said (stations_of g) ++ ls) (cables_said breakers_text ∙ ap (λ ls. map as_cable (cables_of g) ++ ls) breakers_said)
 
   sheet_said : said_by (printed_sheet spell g o) ≡ sheet_lines g o
   unfolding printed_sheet
   sheet_said =
       line-said (printed_line letter_t (times_fields spell g.dt_us g.duration_ms)) (printed_line letter_o (order_fields spell o) ++ (stations_text ++ (cables_text ++ breakers_text)))
-      (Times g.dt_us g.duration_ms) (times_said spell g.dt_us g.duration_ms p.dt_us p.duration_ms)
-      ∙ ap (λ ls. Times g.dt_us g.duration_ms ∷ ls)
-      (line-said (printed_line letter_o (order_fields spell o)) (stations_text ++ (cables_text ++ breakers_text)) (Order o) (order-said spell o p.fault_resistance p.inception_time_ms order_ok_lem)
-      ∙ ap (λ ls. Order o ∷ ls) parts_said)
+      (Some (Times g.dt_us g.duration_ms)) (times_said spell g.dt_us g.duration_ms p.dt_us p.duration_ms)
+      ∙ ap (λ ls. (Some (Times g.dt_us g.duration_ms)) ∷ ls)
+      (line-said (printed_line letter_o (order_fields spell o)) (stations_text ++ (cables_text ++ breakers_text)) (Some (Order o)) (order-said spell o p.fault_resistance p.inception_time_ms order_ok_lem)
+      ∙ ap (λ ls. (Some (Order o)) ∷ ls) parts_said)
 
   -- so few lines are all read
   all_read : (k : ℕ) → k ≡ most_lines → length (sheet_lines g o) ≤ 130 → take k (sheet_lines g o) ≡ sheet_lines g o
@@ -113,5 +117,5 @@ pub lines_few : (g : DcSwitchingSimulator) (o : SweepOrder) → length (stations
 lines_few g o a b c = go (stations_of g) (cables_of g) (breakers_of g) a b c
   where
     go : (ss : List ConverterStation) (cs : List DcCable) (bs : List DcBreaker) → length ss ≤ 32 → length cs ≤ 64 → length bs ≤ 32
-        → length (Times g.dt_us g.duration_ms ∷ Order o ∷ part_lines ss cs bs) ≤ 130
-    go ss cs bs a b c = rw (length-append, length-append, length-append, length-map ss station_said, length-map cs Cable, length-map bs breaker_said) (omega arith)
+        → length (Some (Times g.dt_us g.duration_ms) ∷ (Some (Order o)) ∷ part_lines ss cs bs) ≤ 130
+    go ss cs bs a b c = rw (length-append, length-append, length-append, length-map ss station_said, length-map cs as_cable, length-map bs breaker_said) (omega arith)

@@ -1,5 +1,6 @@
 -- A printed sheet reads back to its grid and order, where the numbers have at most six places. The proofs are in proofs/Claims.antt and proofs/Made.antt.
 use Rattle.std.specs.Prelude.{◌-◌, ◌≤◌, ◌≡◌, List, [], ◌∷◌, length, drop, replicate, Float}
+use Rattle.std.specs.Option.{unwrap_or}
 use Rattle.grid.specs.Simulator.{stations_of, cables_of, breakers_of, kept_time_step, kept_duration, blank_station, blank_cable, blank_breaker, new_simulator, with_station, with_cable, with_breaker}
 use Rattle.grid.specs.declared.parts.DcBreakerType.{DcBreakerType}
 use Rattle.grid.specs.declared.parts.DcBreakerType.TheVariants.{Mechanical, SolidState, HybridBreaker}
@@ -97,12 +98,12 @@ pub record BlankPast (g : DcSwitchingSimulator) : Type 0 where
   pub cables : drop g.n_cables g.cables ≡ replicate (64 - g.n_cables) blank_cable
   pub breakers : drop g.n_breakers g.breakers ≡ replicate (32 - g.n_breakers) blank_breaker
 
--- both hold of what `new` makes, and stay so with a part more
+-- both hold of what `new` makes, and stay so with a part more, or with none where it has no room
 pub record MadeClaims : Type 0 where
   pub new : (dt duration : Float) → Made (new_simulator dt duration) × BlankPast (new_simulator dt duration)
-  pub station : (g : DcSwitchingSimulator) (s : ConverterStation) → Made g → BlankPast g → Made (with_station g s).grid × BlankPast (with_station g s).grid
-  pub cable : (g : DcSwitchingSimulator) (c : DcCable) → Made g → BlankPast g → Made (with_cable g c).grid × BlankPast (with_cable g c).grid
-  pub breaker : (g : DcSwitchingSimulator) (b : DcBreaker) → Made g → BlankPast g → Made (with_breaker g b).grid × BlankPast (with_breaker g b).grid
+  pub station : (g : DcSwitchingSimulator) (s : ConverterStation) → Made g → BlankPast g → Made (unwrap_or (with_station g s) g) × BlankPast (unwrap_or (with_station g s) g)
+  pub cable : (g : DcSwitchingSimulator) (c : DcCable) → Made g → BlankPast g → Made (unwrap_or (with_cable g c) g) × BlankPast (unwrap_or (with_cable g c) g)
+  pub breaker : (g : DcSwitchingSimulator) (b : DcBreaker) → Made g → BlankPast g → Made (unwrap_or (with_breaker g b) g) × BlankPast (unwrap_or (with_breaker g b) g)
 
 -- ---- the claim
 

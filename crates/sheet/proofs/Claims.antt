@@ -1,11 +1,12 @@
 -- What is said of a sheet beside the definitions. Assumes nothing.
+use Rattle.std.proofs.Common.{Option}
 use Prim.Native.Nat.{ℕ}
 use mathlib.Core.Path.{◌≡◌, refl, sym, ◌∙◌, ap}
-use mathlib.Core.Bool.{Bool, true, false, not, ◌&&◌, ◌||◌, cond}
-use mathlib.Core.List.{List, [], ◌∷◌, ◌++◌, foldl, foldl-append}
+use mathlib.Core.Bool.{Bool, true, false, not, ◌||◌, cond}
+use mathlib.Core.List.{List, [], ◌∷◌, foldl, foldl-append}
 use native.Mathlib.Omega.{arith}
 use lib.Dec.{eqb}
-use borrow.Author.Tests.{eq-eqb, eqb-true}
+use borrow.Author.Tests.{eq-eqb}
 use Rattle.lists.specs.Scans.{every}
 use Rattle.lists.proofs.Scanning.{left, right}
 use Rattle.part_checks.specs.PartChecks.{order_ok}
@@ -13,13 +14,11 @@ use Rattle.grid.specs.declared.simulator.DcSwitchingSimulator.{DcSwitchingSimula
 use Rattle.grid.specs.declared.parts.SweepOrder.{SweepOrder}
 use Rattle.rules.specs.Studies.{broken, first, fault_order, sweep_refusal}
 use Rattle.sheet_lines.specs.declared.line.SheetLine.{SheetLine}
-use Rattle.whole_sheets.specs.Sheets.{said, refused, no_order, form_refusal, grid_in, order_in, sheet_broken, shown_at, refusal_of, answered, sheet_answer}
-use Rattle.sheet_bytes.specs.Bytes.{start_of, stopped_in, byte_taken}
+use Rattle.whole_sheets.specs.Sheets.{Refusal, SheetAnswer, said, refused, no_order, form_refusal, grid_in, order_in, sheet_broken, shown_at, refusal_of, answered, sheet_answer}
+use Rattle.sheet_bytes.specs.Bytes.{start_of, byte_taken}
 use Rattle.sheet_answers.specs.Answers.{rule_broken, answer_of}
 use Rattle.sheet.specs.Claims.{joined, fed_all, SheetClaims}
 use Rattle.sheet_bytes.specs.declared.bytes.Reading.{Reading}
-use Rattle.whole_sheets.specs.declared.answers.Refusal.{Refusal}
-use Rattle.whole_sheets.specs.declared.answers.SheetAnswer.{SheetAnswer}
 use Rattle.float64.specs.Constants.{nought}
 use Rattle.grid.specs.Simulator.{new_simulator}
 use Rattle.sheet.proofs.Contents.{contents_of}
@@ -47,11 +46,11 @@ or_left : (a b : Bool) → (a || b) ≡ false → a ≡ false
 or_left true b e = e
 or_left false b e = refl
 
-grid_passes : (ls : List SheetLine) (k : ℕ) → sheet_broken ls k ≡ false → broken (grid_in ls) (not (order_ok (order_in ls))) k ≡ false
+grid_passes : (ls : List (Option SheetLine)) (k : ℕ) → sheet_broken ls k ≡ false → broken (grid_in ls) (not (order_ok (order_in ls))) k ≡ false
 unfolding rule_broken contents_of
 grid_passes ls k e = or_left (broken (grid_in ls) (not (order_ok (order_in ls))) k) _ (ruled ls k ∙ e)
 
-passes : (ls : List SheetLine) → (refusal_of ls).number ≡ 0 → sweep_refusal (grid_in ls) (order_in ls) ≡ 0
+passes : (ls : List (Option SheetLine)) → (refusal_of ls).number ≡ 0 → sweep_refusal (grid_in ls) (order_in ls) ≡ 0
 unfolding refusal_of sweep_refusal
 passes ls e = go (eqb (form_refusal 0 0 ls).number 0) refl e
   where

@@ -1,15 +1,16 @@
 -- What a sheet holds after the lines p, all in their place, and after one more. Assumes nothing.
-use Prim.Native.Nat.{ℕ, zero, suc, ◌+◌, ◌<◌, ◌≤◌}
+use Rattle.std.proofs.Common.{Option, Some}
+use Prim.Native.Nat.{ℕ, ◌+◌, ◌<◌, ◌≤◌}
 use mathlib.Core.Path.{◌≡◌, refl, sym, ◌∙◌, ap, subst}
-use mathlib.Core.Bool.{Bool, true, false, not, ◌&&◌, ◌||◌, cond}
+use mathlib.Core.Bool.{Bool, true, false, cond}
 use mathlib.Core.List.{List, [], ◌∷◌, ◌++◌, append-nil}
 use native.Mathlib.Omega.{arith}
-use lib.Dec.{eqb, ltb, leb}
-use lib.ListN.{length, set, length-append}
+use Rattle.std.proofs.Common.{None}
+use lib.Dec.{eqb, ltb}
+use lib.ListN.{length, length-append}
 use lib.Ieee.{Float}
-use borrow.Author.Tests.{eq-eqb, ne_eqb, lt-ltb, le-ltb, eqb-true, ltb-true, ltb-false}
+use borrow.Author.Tests.{ne_eqb, lt-ltb, eqb-true}
 use Rattle.float64.specs.Constants.{nought}
-use Rattle.part_checks.specs.PartChecks.{station_ok, cable_ok, breaker_ok}
 use Rattle.grid.specs.Simulator.{blank_station, blank_cable, blank_breaker, new_simulator}
 use Rattle.grid.specs.declared.parts.ConverterStation.{ConverterStation}
 use Rattle.grid.specs.declared.parts.DcCable.{DcCable}
@@ -17,24 +18,24 @@ use Rattle.grid.specs.declared.parts.DcBreaker.{DcBreaker}
 use Rattle.grid.specs.declared.parts.SweepOrder.{SweepOrder}
 use Rattle.grid.specs.declared.simulator.DcSwitchingSimulator.{DcSwitchingSimulator}
 use Rattle.sheet_lines.specs.declared.line.SheetLine.{SheetLine}
-use Rattle.sheet_lines.specs.declared.line.SheetLine.TheVariants.{Times, Order, Station, Cable, Breaker, Wrong}
+use Rattle.sheet_lines.specs.declared.line.SheetLine.TheVariants.{Times, Order, Station, Cable, Breaker}
 use Rattle.line_order.specs.Ordered.{place_of, in_order, line_refusal}
 use Rattle.whole_sheets.specs.Sheets.{most_lines, stations_in, cables_in, breakers_in, new_from, no_order, order_from, order_in, laid, grid_in, bad_station, bad_cable, bad_breaker, first_bad}
 use Rattle.sheet_parts.specs.Parts.{counted_on, station_taken, cable_taken, breaker_taken}
-use Rattle.taken_lines.specs.Taken.{empty_sheet, first_of, holding, contents_with, moved_on}
+use Rattle.taken_lines.specs.Taken.{empty_sheet, first_of, contents_with, moved_on}
 use Rattle.taken_lines.specs.declared.taken.Sheet.{Sheet}
 use Rattle.sheet.proofs.Laid.{laid_more}
 
 -- the place of the last line
-abbrev pub last_place : ℕ → List SheetLine → ℕ
+abbrev pub last_place : ℕ → List (Option SheetLine) → ℕ
 last_place d [] = d
 last_place d (l ∷ ls) = last_place (place_of l) ls
 
-pub last_is : (d : ℕ) (p : List SheetLine) (l : SheetLine) → last_place d (p ++ (l ∷ [])) ≡ place_of l
+pub last_is : (d : ℕ) (p : List (Option SheetLine)) (l : Option SheetLine) → last_place d (p ++ (l ∷ [])) ≡ place_of l
 last_is d [] l = refl
 last_is d (x ∷ p) l = last_is (place_of x) p l
 
-unfoldable pub contents_of : List SheetLine → Sheet
+unfoldable pub contents_of : List (Option SheetLine) → Sheet
 contents_of p =
     record {
       grid = grid_in p;
@@ -44,82 +45,82 @@ contents_of p =
       bad_station = first_bad bad_station 0 p;
       bad_cable = first_bad bad_cable 0 p;
       bad_breaker = first_bad bad_breaker 0 p;
-      refusal = 0;
+      fault = None;
     }
 
 -- ---- the parts of lines and one more
 
-stations_more : (p q : List SheetLine) → stations_in (p ++ q) ≡ stations_in p ++ stations_in q
+stations_more : (p q : List (Option SheetLine)) → stations_in (p ++ q) ≡ stations_in p ++ stations_in q
 stations_more [] q = refl
-stations_more (Times dt duration ∷ p) q = stations_more p q
-stations_more (Order o ∷ p) q = stations_more p q
-stations_more (Station s known ∷ p) q = ap {B = List ConverterStation} (λ r. s ∷ r) (stations_more p q)
-stations_more (Cable c ∷ p) q = stations_more p q
-stations_more (Breaker b known ∷ p) q = stations_more p q
-stations_more (Wrong ∷ p) q = stations_more p q
+stations_more (Some (Times dt duration) ∷ p) q = stations_more p q
+stations_more (Some (Order o) ∷ p) q = stations_more p q
+stations_more (Some (Station s known) ∷ p) q = ap {B = List ConverterStation} (λ r. s ∷ r) (stations_more p q)
+stations_more (Some (Cable c) ∷ p) q = stations_more p q
+stations_more (Some (Breaker b known) ∷ p) q = stations_more p q
+stations_more (None ∷ p) q = stations_more p q
 
-stations_few : (p : List SheetLine) → length (stations_in p) ≤ length p
+stations_few : (p : List (Option SheetLine)) → length (stations_in p) ≤ length p
 stations_few [] = omega arith
-stations_few (Times dt duration ∷ p) = let h = stations_few p in omega arith
-stations_few (Order o ∷ p) = let h = stations_few p in omega arith
-stations_few (Station s known ∷ p) = let h = stations_few p in omega arith
-stations_few (Cable c ∷ p) = let h = stations_few p in omega arith
-stations_few (Breaker b known ∷ p) = let h = stations_few p in omega arith
-stations_few (Wrong ∷ p) = let h = stations_few p in omega arith
+stations_few (Some (Times dt duration) ∷ p) = let h = stations_few p in omega arith
+stations_few (Some (Order o) ∷ p) = let h = stations_few p in omega arith
+stations_few (Some (Station s known) ∷ p) = let h = stations_few p in omega arith
+stations_few (Some (Cable c) ∷ p) = let h = stations_few p in omega arith
+stations_few (Some (Breaker b known) ∷ p) = let h = stations_few p in omega arith
+stations_few (None ∷ p) = let h = stations_few p in omega arith
 
-cables_more : (p q : List SheetLine) → cables_in (p ++ q) ≡ cables_in p ++ cables_in q
+cables_more : (p q : List (Option SheetLine)) → cables_in (p ++ q) ≡ cables_in p ++ cables_in q
 cables_more [] q = refl
-cables_more (Times dt duration ∷ p) q = cables_more p q
-cables_more (Order o ∷ p) q = cables_more p q
-cables_more (Station s known ∷ p) q = cables_more p q
-cables_more (Cable c ∷ p) q = ap {B = List DcCable} (λ r. c ∷ r) (cables_more p q)
-cables_more (Breaker b known ∷ p) q = cables_more p q
-cables_more (Wrong ∷ p) q = cables_more p q
+cables_more (Some (Times dt duration) ∷ p) q = cables_more p q
+cables_more (Some (Order o) ∷ p) q = cables_more p q
+cables_more (Some (Station s known) ∷ p) q = cables_more p q
+cables_more (Some (Cable c) ∷ p) q = ap {B = List DcCable} (λ r. c ∷ r) (cables_more p q)
+cables_more (Some (Breaker b known) ∷ p) q = cables_more p q
+cables_more (None ∷ p) q = cables_more p q
 
-cables_few : (p : List SheetLine) → length (cables_in p) ≤ length p
+cables_few : (p : List (Option SheetLine)) → length (cables_in p) ≤ length p
 cables_few [] = omega arith
-cables_few (Times dt duration ∷ p) = let h = cables_few p in omega arith
-cables_few (Order o ∷ p) = let h = cables_few p in omega arith
-cables_few (Station s known ∷ p) = let h = cables_few p in omega arith
-cables_few (Cable c ∷ p) = let h = cables_few p in omega arith
-cables_few (Breaker b known ∷ p) = let h = cables_few p in omega arith
-cables_few (Wrong ∷ p) = let h = cables_few p in omega arith
+cables_few (Some (Times dt duration) ∷ p) = let h = cables_few p in omega arith
+cables_few (Some (Order o) ∷ p) = let h = cables_few p in omega arith
+cables_few (Some (Station s known) ∷ p) = let h = cables_few p in omega arith
+cables_few (Some (Cable c) ∷ p) = let h = cables_few p in omega arith
+cables_few (Some (Breaker b known) ∷ p) = let h = cables_few p in omega arith
+cables_few (None ∷ p) = let h = cables_few p in omega arith
 
-breakers_more : (p q : List SheetLine) → breakers_in (p ++ q) ≡ breakers_in p ++ breakers_in q
+breakers_more : (p q : List (Option SheetLine)) → breakers_in (p ++ q) ≡ breakers_in p ++ breakers_in q
 breakers_more [] q = refl
-breakers_more (Times dt duration ∷ p) q = breakers_more p q
-breakers_more (Order o ∷ p) q = breakers_more p q
-breakers_more (Station s known ∷ p) q = breakers_more p q
-breakers_more (Cable c ∷ p) q = breakers_more p q
-breakers_more (Breaker b known ∷ p) q = ap {B = List DcBreaker} (λ r. b ∷ r) (breakers_more p q)
-breakers_more (Wrong ∷ p) q = breakers_more p q
+breakers_more (Some (Times dt duration) ∷ p) q = breakers_more p q
+breakers_more (Some (Order o) ∷ p) q = breakers_more p q
+breakers_more (Some (Station s known) ∷ p) q = breakers_more p q
+breakers_more (Some (Cable c) ∷ p) q = breakers_more p q
+breakers_more (Some (Breaker b known) ∷ p) q = ap {B = List DcBreaker} (λ r. b ∷ r) (breakers_more p q)
+breakers_more (None ∷ p) q = breakers_more p q
 
-breakers_few : (p : List SheetLine) → length (breakers_in p) ≤ length p
+breakers_few : (p : List (Option SheetLine)) → length (breakers_in p) ≤ length p
 breakers_few [] = omega arith
-breakers_few (Times dt duration ∷ p) = let h = breakers_few p in omega arith
-breakers_few (Order o ∷ p) = let h = breakers_few p in omega arith
-breakers_few (Station s known ∷ p) = let h = breakers_few p in omega arith
-breakers_few (Cable c ∷ p) = let h = breakers_few p in omega arith
-breakers_few (Breaker b known ∷ p) = let h = breakers_few p in omega arith
-breakers_few (Wrong ∷ p) = let h = breakers_few p in omega arith
+breakers_few (Some (Times dt duration) ∷ p) = let h = breakers_few p in omega arith
+breakers_few (Some (Order o) ∷ p) = let h = breakers_few p in omega arith
+breakers_few (Some (Station s known) ∷ p) = let h = breakers_few p in omega arith
+breakers_few (Some (Cable c) ∷ p) = let h = breakers_few p in omega arith
+breakers_few (Some (Breaker b known) ∷ p) = let h = breakers_few p in omega arith
+breakers_few (None ∷ p) = let h = breakers_few p in omega arith
 
-new_more : (g : DcSwitchingSimulator) (p q : List SheetLine) → new_from g (p ++ q) ≡ new_from (new_from g p) q
+new_more : (g : DcSwitchingSimulator) (p q : List (Option SheetLine)) → new_from g (p ++ q) ≡ new_from (new_from g p) q
 new_more g [] q = refl
-new_more g (Times dt duration ∷ p) q = new_more (new_simulator dt duration) p q
-new_more g (Order o ∷ p) q = new_more g p q
-new_more g (Station s known ∷ p) q = new_more g p q
-new_more g (Cable c ∷ p) q = new_more g p q
-new_more g (Breaker b known ∷ p) q = new_more g p q
-new_more g (Wrong ∷ p) q = new_more g p q
+new_more g (Some (Times dt duration) ∷ p) q = new_more (new_simulator dt duration) p q
+new_more g (Some (Order o) ∷ p) q = new_more g p q
+new_more g (Some (Station s known) ∷ p) q = new_more g p q
+new_more g (Some (Cable c) ∷ p) q = new_more g p q
+new_more g (Some (Breaker b known) ∷ p) q = new_more g p q
+new_more g (None ∷ p) q = new_more g p q
 
-order_more : (o₀ : SweepOrder) (p q : List SheetLine) → order_from o₀ (p ++ q) ≡ order_from (order_from o₀ p) q
+order_more : (o₀ : SweepOrder) (p q : List (Option SheetLine)) → order_from o₀ (p ++ q) ≡ order_from (order_from o₀ p) q
 order_more o₀ [] q = refl
-order_more o₀ (Times dt duration ∷ p) q = order_more o₀ p q
-order_more o₀ (Order o ∷ p) q = order_more o p q
-order_more o₀ (Station s known ∷ p) q = order_more o₀ p q
-order_more o₀ (Cable c ∷ p) q = order_more o₀ p q
-order_more o₀ (Breaker b known ∷ p) q = order_more o₀ p q
-order_more o₀ (Wrong ∷ p) q = order_more o₀ p q
+order_more o₀ (Some (Times dt duration) ∷ p) q = order_more o₀ p q
+order_more o₀ (Some (Order o) ∷ p) q = order_more o p q
+order_more o₀ (Some (Station s known) ∷ p) q = order_more o₀ p q
+order_more o₀ (Some (Cable c) ∷ p) q = order_more o₀ p q
+order_more o₀ (Some (Breaker b known) ∷ p) q = order_more o₀ p q
+order_more o₀ (None ∷ p) q = order_more o₀ p q
 
 -- ---- the first bad line
 
@@ -135,7 +136,7 @@ first_of_good n k = go (eqb n 0) refl
     go true e = sym (eqb-true n 0 e)
     go false e = refl
 
-bad_more : (bad : SheetLine → Bool) (k : ℕ) (p : List SheetLine) (l : SheetLine) → first_bad bad k (p ++ (l ∷ [])) ≡ first_of (first_bad bad k p) (bad l) (k + length p + 1)
+bad_more : (bad : Option SheetLine → Bool) (k : ℕ) (p : List (Option SheetLine)) (l : Option SheetLine) → first_bad bad k (p ++ (l ∷ [])) ≡ first_of (first_bad bad k p) (bad l) (k + length p + 1)
 unfolding first_of
 bad_more bad k [] l = let n : k + 1 ≡ k + 0 + 1 = omega arith in ap (λ m. cond (bad l) m 0) n
 bad_more bad k (x ∷ p) l = go (bad x) (bad_more bad (k + 1) p l)
@@ -165,11 +166,11 @@ grid_with xs cs bs new =
 abbrev unmade : DcSwitchingSimulator
 unmade = new_simulator nought nought
 
-grid_is : (p : List SheetLine) → grid_in p ≡ grid_with (stations_in p) (cables_in p) (breakers_in p) (new_from unmade p)
+grid_is : (p : List (Option SheetLine)) → grid_in p ≡ grid_with (stations_in p) (cables_in p) (breakers_in p) (new_from unmade p)
 unfolding grid_in
 grid_is p = refl
 
-grid_more : (p : List SheetLine) (l : SheetLine)
+grid_more : (p : List (Option SheetLine)) (l : Option SheetLine)
     → grid_with (stations_in p ++ stations_in (l ∷ [])) (cables_in p ++ cables_in (l ∷ [])) (breakers_in p ++ breakers_in (l ∷ [])) (new_from (new_from unmade p) (l ∷ [])) ≡ grid_in (p ++ (l ∷ []))
 grid_more p l =
     sym
@@ -203,8 +204,8 @@ module _ (xs : List ConverterStation) (cs : List DcCable) (bs : List DcBreaker) 
 
 same : {g g' : DcSwitchingSimulator} {o o' : SweepOrder} {n n' m m' x x' y y' z z' : ℕ} → g ≡ g' → o ≡ o' → n ≡ n' → m ≡ m' → x ≡ x' → y ≡ y' → z ≡ z'
     → ◌≡◌ {A = Sheet}
-    record { grid = g; order = o; lines = n; last = m; bad_station = x; bad_cable = y; bad_breaker = z; refusal = 0 }
-    record { grid = g'; order = o'; lines = n'; last = m'; bad_station = x'; bad_cable = y'; bad_breaker = z'; refusal = 0 }
+    record { grid = g; order = o; lines = n; last = m; bad_station = x; bad_cable = y; bad_breaker = z; fault = None }
+    record { grid = g'; order = o'; lines = n'; last = m'; bad_station = x'; bad_cable = y'; bad_breaker = z'; fault = None }
 same a b c d e f h = rw (a, b, c, d, e, f, h)
 
 first_line : (k before : ℕ) → line_refusal k before 0 ≡ 0 → k ≡ 0
@@ -216,7 +217,7 @@ first_line k before e = go (ltb k 2) (eqb 0 k) refl e
     go true false q e = let z : ◌≡◌ {A = ℕ} 13 0 = e in absurd (omega arith)
     go false u q e = let z : ◌≡◌ {A = ℕ} 13 0 = e in absurd (omega arith)
 
-no_line : (p : List SheetLine) → length p ≡ 0 → p ≡ []
+no_line : (p : List (Option SheetLine)) → length p ≡ 0 → p ≡ []
 no_line [] h = refl
 no_line (l ∷ p) h = absurd (omega arith)
 
@@ -224,7 +225,7 @@ pub wrong_refused : (k before : ℕ) → line_refusal k before 5 ≡ 12
 unfolding line_refusal
 wrong_refused k before = refl
 
-times_first : (dt duration : Float) → moved_on (contents_with (contents_of []) (Times dt duration)) (counted_on 0) 0 ≡ contents_of (Times dt duration ∷ [])
+times_first : (dt duration : Float) → moved_on (contents_with (contents_of []) (Some (Times dt duration))) (counted_on 0) 0 ≡ contents_of (Some (Times dt duration) ∷ [])
 unfolding contents_with contents_of grid_in new_simulator counted_on
 times_first dt duration = refl
 
@@ -232,58 +233,58 @@ pub contents_none : empty_sheet ≡ contents_of []
 unfolding empty_sheet contents_of grid_in new_simulator
 contents_none = refl
 
-module _ (p : List SheetLine) (h : length p < most_lines) where
-  abbrev lines_more : (l : SheetLine) → counted_on (length p) ≡ length (p ++ (l ∷ []))
+module _ (p : List (Option SheetLine)) (h : length p < most_lines) where
+  abbrev lines_more : (l : Option SheetLine) → counted_on (length p) ≡ length (p ++ (l ∷ []))
   lines_more l = counted (length p) h ∙ sym (length-append p (l ∷ []))
 
   -- what the first bad line is after one more
-  abbrev bads_more : (bad : SheetLine → Bool) (l : SheetLine) → first_of (first_bad bad 0 p) (bad l) (counted_on (length p)) ≡ first_bad bad 0 (p ++ (l ∷ []))
+  abbrev bads_more : (bad : Option SheetLine → Bool) (l : Option SheetLine) → first_of (first_bad bad 0 p) (bad l) (counted_on (length p)) ≡ first_bad bad 0 (p ++ (l ∷ []))
   bads_more bad l =
       let n : counted_on (length p) ≡ 0 + length p + 1 = counted (length p) h ∙ omega arith in
       ap (first_of (first_bad bad 0 p) (bad l)) n ∙ sym (bad_more bad 0 p l)
 
-  abbrev bads_same : (bad : SheetLine → Bool) (l : SheetLine) → bad l ≡ false → first_bad bad 0 p ≡ first_bad bad 0 (p ++ (l ∷ []))
+  abbrev bads_same : (bad : Option SheetLine → Bool) (l : Option SheetLine) → bad l ≡ false → first_bad bad 0 p ≡ first_bad bad 0 (p ++ (l ∷ []))
   bads_same bad l e = sym (first_of_good (first_bad bad 0 p) (0 + length p + 1)) ∙ ap (λ b. first_of (first_bad bad 0 p) b (0 + length p + 1)) (sym e) ∙ sym (bad_more bad 0 p l)
 
-  pub contents_more : (l : SheetLine) → line_refusal (length p) (last_place 0 p) (place_of l) ≡ 0 → moved_on (contents_with (contents_of p) l) (counted_on (length p)) (place_of l) ≡ contents_of (p ++ (l ∷ []))
+  pub contents_more : (l : Option SheetLine) → line_refusal (length p) (last_place 0 p) (place_of l) ≡ 0 → moved_on (contents_with (contents_of p) l) (counted_on (length p)) (place_of l) ≡ contents_of (p ++ (l ∷ []))
   unfolding contents_with contents_of
-  contents_more (Times dt duration) e =
+  contents_more (Some (Times dt duration)) e =
       let none : p ≡ [] = no_line p (first_line (length p) (last_place 0 p) e) in
-      subst (λ q. moved_on (contents_with (contents_of q) (Times dt duration)) (counted_on (length q)) 0 ≡ contents_of (q ++ (Times dt duration ∷ []))) (sym none) (times_first dt duration)
-  contents_more (Order o) e =
+      subst (λ q. moved_on (contents_with (contents_of q) (Some (Times dt duration))) (counted_on (length q)) 0 ≡ contents_of (q ++ (Some (Times dt duration) ∷ []))) (sym none) (times_first dt duration)
+  contents_more (Some (Order o)) e =
       same
-      (grid_is p ∙ nothing_put (stations_in p) (cables_in p) (breakers_in p) (new_from unmade p) ∙ grid_more p (Order o))
-      (sym (order_more no_order p (Order o ∷ [])))
-      (lines_more (Order o))
-      (sym (last_is 0 p (Order o)))
-      (bads_same bad_station (Order o) refl)
-      (bads_same bad_cable (Order o) refl)
-      (bads_same bad_breaker (Order o) refl)
-  contents_more (Station x known) e =
+      (grid_is p ∙ nothing_put (stations_in p) (cables_in p) (breakers_in p) (new_from unmade p) ∙ grid_more p (Some (Order o)))
+      (sym (order_more no_order p (Some (Order o) ∷ [])))
+      (lines_more (Some (Order o)))
+      (sym (last_is 0 p (Some (Order o))))
+      (bads_same bad_station (Some (Order o)) refl)
+      (bads_same bad_cable (Some (Order o)) refl)
+      (bads_same bad_breaker (Some (Order o)) refl)
+  contents_more (Some (Station x known)) e =
       same
-      (ap (λ g. station_taken g x) (grid_is p) ∙ station_put (stations_in p) (cables_in p) (breakers_in p) (new_from unmade p) x (omega (arith, stations_few p)) ∙ grid_more p (Station x known))
-      (sym (order_more no_order p (Station x known ∷ [])))
-      (lines_more (Station x known))
-      (sym (last_is 0 p (Station x known)))
-      (bads_more bad_station (Station x known))
-      (bads_same bad_cable (Station x known) refl)
-      (bads_same bad_breaker (Station x known) refl)
-  contents_more (Cable x) e =
+      (ap (λ g. station_taken g x) (grid_is p) ∙ station_put (stations_in p) (cables_in p) (breakers_in p) (new_from unmade p) x (omega (arith, stations_few p)) ∙ grid_more p (Some (Station x known)))
+      (sym (order_more no_order p (Some (Station x known) ∷ [])))
+      (lines_more (Some (Station x known)))
+      (sym (last_is 0 p (Some (Station x known))))
+      (bads_more bad_station (Some (Station x known)))
+      (bads_same bad_cable (Some (Station x known)) refl)
+      (bads_same bad_breaker (Some (Station x known)) refl)
+  contents_more (Some (Cable x)) e =
       same
-      (ap (λ g. cable_taken g x) (grid_is p) ∙ cable_put (stations_in p) (cables_in p) (breakers_in p) (new_from unmade p) x (omega (arith, cables_few p)) ∙ grid_more p (Cable x))
-      (sym (order_more no_order p (Cable x ∷ [])))
-      (lines_more (Cable x))
-      (sym (last_is 0 p (Cable x)))
-      (bads_same bad_station (Cable x) refl)
-      (bads_more bad_cable (Cable x))
-      (bads_same bad_breaker (Cable x) refl)
-  contents_more (Breaker x known) e =
+      (ap (λ g. cable_taken g x) (grid_is p) ∙ cable_put (stations_in p) (cables_in p) (breakers_in p) (new_from unmade p) x (omega (arith, cables_few p)) ∙ grid_more p (Some (Cable x)))
+      (sym (order_more no_order p (Some (Cable x) ∷ [])))
+      (lines_more (Some (Cable x)))
+      (sym (last_is 0 p (Some (Cable x))))
+      (bads_same bad_station (Some (Cable x)) refl)
+      (bads_more bad_cable (Some (Cable x)))
+      (bads_same bad_breaker (Some (Cable x)) refl)
+  contents_more (Some (Breaker x known)) e =
       same
-      (ap (λ g. breaker_taken g x) (grid_is p) ∙ breaker_put (stations_in p) (cables_in p) (breakers_in p) (new_from unmade p) x (omega (arith, breakers_few p)) ∙ grid_more p (Breaker x known))
-      (sym (order_more no_order p (Breaker x known ∷ [])))
-      (lines_more (Breaker x known))
-      (sym (last_is 0 p (Breaker x known)))
-      (bads_same bad_station (Breaker x known) refl)
-      (bads_same bad_cable (Breaker x known) refl)
-      (bads_more bad_breaker (Breaker x known))
-  contents_more Wrong e = let z : ◌≡◌ {A = ℕ} 12 0 = sym (wrong_refused (length p) (last_place 0 p)) ∙ e in absurd (omega arith)
+      (ap (λ g. breaker_taken g x) (grid_is p) ∙ breaker_put (stations_in p) (cables_in p) (breakers_in p) (new_from unmade p) x (omega (arith, breakers_few p)) ∙ grid_more p (Some (Breaker x known)))
+      (sym (order_more no_order p (Some (Breaker x known) ∷ [])))
+      (lines_more (Some (Breaker x known)))
+      (sym (last_is 0 p (Some (Breaker x known))))
+      (bads_same bad_station (Some (Breaker x known)) refl)
+      (bads_same bad_cable (Some (Breaker x known)) refl)
+      (bads_more bad_breaker (Some (Breaker x known)))
+  contents_more None e = let z : ◌≡◌ {A = ℕ} 12 0 = sym (wrong_refused (length p) (last_place 0 p)) ∙ e in absurd (omega arith)

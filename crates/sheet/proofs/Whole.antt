@@ -1,19 +1,17 @@
 -- A sheet read byte by byte is the sheet of the lines of its text. Assumes nothing.
+use Rattle.std.proofs.Common.{None}
 use Prim.Native.Nat.{ℕ, zero, suc, ◌+◌, ◌<◌, ◌≤◌}
-use mathlib.Core.Path.{◌≡◌, refl, sym, ◌∙◌, ap, subst}
-use mathlib.Core.Bool.{Bool, true, false, not, ◌&&◌, cond}
-use mathlib.Core.List.{List, [], ◌∷◌, ◌++◌, map, foldl, foldl-append, append-nil, append_assoc}
+use mathlib.Core.Path.{◌≡◌, refl, sym, ◌∙◌, ap}
+use mathlib.Core.Bool.{Bool, true, false, not, cond}
+use mathlib.Core.List.{List, [], ◌∷◌, ◌++◌, map, foldl, append_assoc}
 use native.Mathlib.Omega.{arith}
 use native.Mathlib.Numerals.{add-one}
 use lib.Dec.{eqb, ltb}
-use lib.ListN.{length, take, set, replicate, length-set, length-append}
+use lib.ListN.{length, take, set, length-set, length-append}
 use lib.Seq.{length-take-le, take-suc-set}
-use borrow.Author.Tests.{eq-eqb, ne_eqb, lt-ltb, le-ltb, eqb-true, ltb-true, ltb-false}
-use Rattle.lists.specs.Scans.{every}
+use borrow.Author.Tests.{eq-eqb, eqb-true, ltb-true, ltb-false}
 use Rattle.lists.proofs.Scanning.{left, right, both}
 use Rattle.sheet_lines.specs.Lines.{line_of}
-use Rattle.sheet_lines.specs.declared.line.SheetLine.{SheetLine}
-use Rattle.sheet_lines.specs.declared.line.SheetLine.TheVariants.{Wrong}
 use Rattle.sheet_lines.proofs.WrongLines.{feedless, too_long as too_long_lem, unended}
 use Rattle.whole_sheets.specs.Sheets.{before, lines_of, most_lines, said, grid_in, order_in, refusal_of, answered, sheet_answer}
 use Rattle.taken_lines.specs.Taken.{empty_sheet, stopped_at, with_line}
@@ -60,9 +58,9 @@ ended_stopped : (r : Reading) → stopped_in r ≡ true → ended_of r ≡ r.she
 unfolding ended_of
 ended_stopped r h = go (eqb r.length 0)
   where
-    go : (t : Bool) → cond t r.sheet (with_line r.sheet Wrong) ≡ r.sheet
+    go : (t : Bool) → cond t r.sheet (with_line r.sheet None) ≡ r.sheet
     go true = refl
-    go false = sym (stopped_way r.sheet Wrong h)
+    go false = sym (stopped_way r.sheet None h)
 
 -- the rest of the text, from any reading of which no line is refused
 abbrev Rest : List ℕ → Type 0
@@ -82,15 +80,15 @@ at_end_lem r g w i f = go r.length refl
 
 -- ---- a line that is too long
 
-spilled : (s : Sheet) (p : List ℕ) (b : ℕ) (l : List ℕ) (ls : List (List ℕ)) → length p ≡ longest → stopped_at s ≡ false → after s ((p ++ (b ∷ l)) ∷ ls) ≡ with_line s Wrong
+spilled : (s : Sheet) (p : List ℕ) (b : ℕ) (l : List ℕ) (ls : List (List ℕ)) → length p ≡ longest → stopped_at s ≡ false → after s ((p ++ (b ∷ l)) ∷ ls) ≡ with_line s None
 spilled s p b l ls h g =
     ap (λ x. foldl with_line (with_line s x) (map line_of ls)) (too_long_lem (p ++ (b ∷ l)) (rw length-append (omega arith)))
-    ∙ lines_stopped (with_line s Wrong) (map line_of ls) (wrong_stops s g)
+    ∙ lines_stopped (with_line s None) (map line_of ls) (wrong_stops s g)
 
-spill : (s : Sheet) (p : List ℕ) (b : ℕ) (bs : List ℕ) → length p ≡ longest → stopped_at s ≡ false → after s (attach p (lines_of (b ∷ bs))) ≡ with_line s Wrong
+spill : (s : Sheet) (p : List ℕ) (b : ℕ) (bs : List ℕ) → length p ≡ longest → stopped_at s ≡ false → after s (attach p (lines_of (b ∷ bs))) ≡ with_line s None
 spill s p b bs h g = go (eqb b 10) (lines_of bs)
   where
-    go : (t : Bool) (ls : List (List ℕ)) → after s (attach p (cond t ((b ∷ []) ∷ ls) (before b ls))) ≡ with_line s Wrong
+    go : (t : Bool) (ls : List (List ℕ)) → after s (attach p (cond t ((b ∷ []) ∷ ls) (before b ls))) ≡ with_line s None
     go true ls = spilled s p b [] ls h g
     go false [] = spilled s p b [] [] h g
     go false (l ∷ ls) = spilled s p b l ls h g
@@ -108,7 +106,7 @@ module _ (b : ℕ) (bs : List ℕ) (ih : Rest bs) (r : Reading) (g : stopped_in 
   too_much h i =
       let t = too_long r in
       let stop : stopped_in t ≡ true = wrong_stops r.sheet g in
-      ap (λ x. ended_of (foldl byte_taken x bs)) (sym (long_way r b g h (with_line r.sheet Wrong) refl))
+      ap (λ x. ended_of (foldl byte_taken x bs)) (sym (long_way r b g h (with_line r.sheet None) refl))
       ∙ ap ended_of (fold-stopped t bs stop)
       ∙ ended_stopped t stop
       ∙ sym (spill r.sheet (take r.length r.line) b bs (length-take-le r.length r.line (omega arith) ∙ omega arith) g)

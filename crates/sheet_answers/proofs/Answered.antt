@@ -1,35 +1,93 @@
--- The two ways in which a reading is answered. Assumes nothing.
-use mathlib.Core.Path.{◌≡◌, refl}
-use mathlib.Core.Bool.{cond}
-use borrow.Author.Tests.{eq-eqb, ne_eqb, lt-ltb, le-ltb}
+-- How a sheet is judged and a reading is answered. Assumes nothing.
 use Prim.Native.Nat.{ℕ, ◌<◌, ◌≤◌}
-use Rattle.whole_sheets.specs.Sheets.{refused, answered}
-use Rattle.sheet_parts.specs.Parts.{counted_on}
-use Rattle.taken_lines.specs.Taken.{empty_sheet}
+use mathlib.Core.Path.{◌≡◌, refl, sym}
+use mathlib.Core.Bool.{Bool, true, false, ◌&&◌, cond}
+use lib.Dec.{eqb, ltb}
+use Rattle.float64.specs.Constants.{nought}
+use Rattle.grid.specs.Simulator.{new_simulator}
+use Rattle.rules.specs.Studies.{rule_number}
+use Rattle.rules.specs.declared.studies.Refusal as rules
+use Rattle.rules.specs.declared.studies.Refusal.TheVariants.{NoStation, NoCable, TooManyParts, TimeOutside, TooManySteps, StationOutside, CableOutside, BreakerOutside, EventOutside, NotConverged}
+use Rattle.grid.specs.declared.parts.SweepOrder.{SweepOrder}
+use Rattle.grid.specs.declared.simulator.DcSwitchingSimulator.{DcSwitchingSimulator}
 use Rattle.sheet_bytes.specs.Bytes.{ended_of}
+use Rattle.sheet_bytes.specs.declared.bytes.Reading.{Reading}
+use borrow.Author.Tests.{lt-ltb, le-ltb}
+use Rattle.std.proofs.Common.{Some, None}
+use Rattle.line_order.specs.Ordered.{fault_number}
+use Rattle.line_order.specs.declared.order.LineFault.{LineFault}
+use Rattle.line_order.specs.declared.order.LineFault.TheVariants.{WrongForm, WrongOrder}
+use Rattle.whole_sheets.specs.Sheets.{Refusal, SheetAnswer, refused, none, no_order, answered, contents_of}
+use Rattle.sheet_parts.specs.Parts.{counted_on}
 use Rattle.sheet_answers.specs.Answers.{rule_refusal, rule_line, refusal_in, answer_of}
 use Rattle.taken_lines.specs.declared.taken.Sheet.{Sheet}
-use Rattle.sheet_bytes.specs.declared.bytes.Reading.{Reading}
-use Rattle.whole_sheets.specs.declared.answers.Refusal.{Refusal}
 
 module _ (s : Sheet) (n : ℕ) where
-  pub line_refused : (s.refusal ≡ 0 → ⊥) → n ≡ counted_on s.lines → refused s.refusal n ≡ refusal_in s
+  pub line_refused : (f : LineFault) → s.fault ≡ Some f → n ≡ counted_on s.lines → refused (fault_number f) n ≡ refusal_in s
   unfolding refusal_in
-  line_refused h e = rw (ne_eqb s.refusal 0 h, e)
+  line_refused WrongForm h e = rw (h, e)
+  line_refused WrongOrder h e = rw (h, e)
 
-  pub line_missing : s.refusal ≡ 0 → s.lines < 2 → n ≡ counted_on s.lines → refused 13 n ≡ refusal_in s
+  pub line_missing : s.fault ≡ None → s.lines < 2 → n ≡ counted_on s.lines → refused 13 n ≡ refusal_in s
   unfolding refusal_in
-  line_missing h k e = rw (eq-eqb s.refusal 0 h, lt-ltb s.lines 2 k, e)
+  line_missing h k e = rw (h, lt-ltb s.lines 2 k, e)
 
-  pub by_rule : s.refusal ≡ 0 → 2 ≤ s.lines → n ≡ rule_refusal s → (m : ℕ) → m ≡ rule_line s n → refused n m ≡ refusal_in s
+  pub by_rule : s.fault ≡ None → 2 ≤ s.lines → n ≡ rule_refusal s → (m : ℕ) → m ≡ rule_line s n → refused n m ≡ refusal_in s
   unfolding refusal_in
-  by_rule h k e m p = rw (eq-eqb s.refusal 0 h, le-ltb s.lines 2 k, p, e)
+  by_rule h k e m p = rw (h, le-ltb s.lines 2 k, ← h, p, e)
 
-module _ (r : Reading) (s : Sheet) (e : s ≡ ended_of r) (f : Refusal) (p : f ≡ refusal_in s) where
-  pub answer_kept : f.number ≡ 0 → record { refusal = f; grid = s.grid; order = s.order } ≡ answer_of r
+pub accepted_way : (s : Sheet) → s.fault ≡ None → 2 ≤ s.lines → 0 ≡ rule_refusal s → none ≡ refusal_in s
+unfolding refusal_in rule_line
+accepted_way s h k e = rw (h, le-ltb s.lines 2 k, ← h, ← e)
+
+same_refusal : (f : Refusal) (g : DcSwitchingSimulator) (o : SweepOrder) → (answered f g o).refusal ≡ f
+unfolding answered
+same_refusal f g o = either (eqb f.number 0)
+  where
+    given : SheetAnswer
+    given = record { refusal = f; grid = g; order = o }
+
+    blank : SheetAnswer
+    blank = record { refusal = f; grid = new_simulator nought nought; order = no_order }
+
+    either : (b : Bool) → (cond b given blank).refusal ≡ f
+    either true = refl
+    either false = refl
+
+-- what is printed of an answer is the refusal, and an answer without one has the sheet's grid and order
+module _ (r : Reading) (s : Sheet) (e : s ≡ ended_of r) where
+  pub refusal_way : (f : Refusal) → f ≡ refusal_in s → f ≡ (answer_of r).refusal
+  unfolding answer_of
+  refusal_way f p = rw (← e, ← p) (sym (same_refusal f s.grid s.order))
+
+  pub contents_way : none ≡ refusal_in s → record { grid = s.grid; order = s.order } ≡ contents_of (answer_of r)
   unfolding answer_of answered
-  answer_kept z = rw (← e, ← p, eq-eqb f.number 0 z)
+  contents_way p = rw (← e, ← p)
 
-  pub answer_refused : (f.number ≡ 0 → ⊥) → (t : Sheet) → t ≡ empty_sheet → record { refusal = f; grid = t.grid; order = t.order } ≡ answer_of r
-  unfolding answer_of answered empty_sheet
-  answer_refused z t k = rw (← e, ← p, ne_eqb f.number 0 z, k)
+-- ---- a rule has a number from 1 on
+
+pub no_rule : (r : rules.Refusal) → false ≡ eqb 0 (rule_number r)
+unfolding rule_number
+no_rule NoStation = refl
+no_rule NoCable = refl
+no_rule TooManyParts = refl
+no_rule TimeOutside = refl
+no_rule TooManySteps = refl
+no_rule StationOutside = refl
+no_rule CableOutside = refl
+no_rule BreakerOutside = refl
+no_rule EventOutside = refl
+no_rule NotConverged = refl
+
+pub some_rule : (r : rules.Refusal) (b : Bool) → b ≡ ltb 0 (rule_number r) && b
+unfolding rule_number
+some_rule NoStation b = refl
+some_rule NoCable b = refl
+some_rule TooManyParts b = refl
+some_rule TimeOutside b = refl
+some_rule TooManySteps b = refl
+some_rule StationOutside b = refl
+some_rule CableOutside b = refl
+some_rule BreakerOutside b = refl
+some_rule EventOutside b = refl
+some_rule NotConverged b = refl

@@ -1,11 +1,11 @@
 -- The rule that a sheet is refused by, from the one that its grid and its order show. Assumes nothing.
-use Prim.Native.Nat.{ℕ, ◌<◌, ◌≤◌}
+use Prim.Native.Nat.{ℕ, ◌<◌}
 use mathlib.Core.Path.{◌≡◌, refl, sym, ◌∙◌, ap, subst}
 use mathlib.Core.Bool.{Bool, true, false, not, ◌||◌, cond}
 use native.Mathlib.Omega.{arith}
 use lib.Dec.{eqb}
 use Rattle.part_checks.specs.PartChecks.{order_ok}
-use Rattle.rules.specs.Studies.{broken, first, fault_order, sweep_refusal}
+use Rattle.rules.specs.Studies.{broken, first, sweep_refusal}
 use Rattle.sheet_answers.specs.Answers.{rule_broken, rule_refusal, line_rule}
 use Rattle.taken_lines.specs.declared.taken.Sheet.{Sheet}
 

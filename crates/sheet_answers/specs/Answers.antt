@@ -2,13 +2,12 @@
 use Rattle.std.specs.Prelude.{ℕ, Bool, false, not, ◌||◌, cond, eqb, ltb}
 use Rattle.part_checks.specs.PartChecks.{order_ok}
 use Rattle.rules.specs.Studies.{broken, first, fault_order}
-use Rattle.whole_sheets.specs.Sheets.{refused, answered}
+use Rattle.whole_sheets.specs.Sheets.{Refusal, SheetAnswer, refused, answered}
 use Rattle.sheet_parts.specs.Parts.{counted_on}
 use Rattle.sheet_bytes.specs.Bytes.{ended_of}
 use Rattle.taken_lines.specs.declared.taken.Sheet.{Sheet}
 use Rattle.sheet_bytes.specs.declared.bytes.Reading.{Reading}
-use Rattle.whole_sheets.specs.declared.answers.Refusal.{Refusal}
-use Rattle.whole_sheets.specs.declared.answers.SheetAnswer.{SheetAnswer}
+use Rattle.taken_lines.specs.Taken.{fault_in}
 
 -- the rules that the grid and the order show, or one of 6, 7 and 8 that a line shows
 unfoldable pub rule_broken : Sheet → ℕ → Bool
@@ -38,9 +37,9 @@ rule_line s rule =
 
 unfoldable pub refusal_in : Sheet → Refusal
 refusal_in s =
-    cond (eqb s.refusal 0)
+    cond (eqb (fault_in s.fault) 0)
     (cond (ltb s.lines 2) (refused 13 (counted_on s.lines)) (refused (rule_refusal s) (rule_line s (rule_refusal s))))
-    (refused s.refusal (counted_on s.lines))
+    (refused (fault_in s.fault) (counted_on s.lines))
 
 unfoldable pub answer_of : Reading → SheetAnswer
 answer_of r = answered (refusal_in (ended_of r)) (ended_of r).grid (ended_of r).order

@@ -1,15 +1,13 @@
 -- One lemma for each way through a byte, and what follows a sheet that has stopped. Assumes nothing.
+use Rattle.std.proofs.Common.{None}
 use Prim.Native.Nat.{ℕ, ◌+◌, ◌<◌, ◌≤◌}
 use mathlib.Core.Path.{◌≡◌, refl, sym, ◌∙◌, ap}
-use mathlib.Core.Bool.{true, false, cond}
-use mathlib.Core.List.{List, [], ◌∷◌, ◌++◌, foldl, foldl-append}
-use native.Mathlib.Omega.{arith}
-use lib.Dec.{eqb, ltb}
+use mathlib.Core.Bool.{true, false}
+use mathlib.Core.List.{List, [], ◌∷◌, foldl, foldl-append}
 use lib.ListN.{length, take, drop, set, get_or, take-append-drop}
 use borrow.Author.Tests.{eq-eqb, ne_eqb, lt-ltb, le-ltb}
 use Rattle.lists.proofs.Folds.{fold_more}
 use Rattle.sheet_lines.specs.Lines.{line_of}
-use Rattle.sheet_lines.specs.declared.line.SheetLine.TheVariants.{Wrong}
 use Rattle.line_order.specs.Ordered.{line_refusal}
 use Rattle.taken_lines.specs.Taken.{stopped_at, refused_by, with_line}
 use Rattle.sheet_bytes.specs.Bytes.{longest, stopped_in, byte_taken, ended_of}
@@ -28,17 +26,17 @@ module _ (r : Reading) (b : ℕ) (going : stopped_in r ≡ false) where
   unfolding byte_taken
   line_way h k s e = rw (going, lt-ltb r.length longest h, eq-eqb b 10 k, e)
 
-  pub long_way : longest ≤ r.length → (s : Sheet) → s ≡ with_line r.sheet Wrong → record { sheet = s; line = r.line; length = r.length } ≡ byte_taken r b
+  pub long_way : longest ≤ r.length → (s : Sheet) → s ≡ with_line r.sheet None → record { sheet = s; line = r.line; length = r.length } ≡ byte_taken r b
   unfolding byte_taken
   long_way h s e = rw (going, le-ltb r.length longest h, e)
 
 -- ---- a line of wrong form stops the sheet
 
-pub wrong_is : (s : Sheet) → stopped_at s ≡ false → with_line s Wrong ≡ refused_by s 12
+pub wrong_is : (s : Sheet) → stopped_at s ≡ false → with_line s None ≡ refused_by s 12
 unfolding with_line line_refusal
 wrong_is s h = rw h
 
-pub wrong_stops : (s : Sheet) → stopped_at s ≡ false → stopped_at (with_line s Wrong) ≡ true
+pub wrong_stops : (s : Sheet) → stopped_at s ≡ false → stopped_at (with_line s None) ≡ true
 unfolding stopped_at
 wrong_stops s h = ap stopped_at (wrong_is s h)
 
@@ -69,6 +67,6 @@ pub ended_empty : (r : Reading) → r.length ≡ 0 → r.sheet ≡ ended_of r
 unfolding ended_of
 ended_empty r h = rw (eq-eqb r.length 0 h)
 
-pub ended_open : (r : Reading) → (r.length ≡ 0 → ⊥) → with_line r.sheet Wrong ≡ ended_of r
+pub ended_open : (r : Reading) → (r.length ≡ 0 → ⊥) → with_line r.sheet None ≡ ended_of r
 unfolding ended_of
 ended_open r h = rw (ne_eqb r.length 0 h)

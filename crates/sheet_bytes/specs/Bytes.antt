@@ -1,7 +1,6 @@
 -- A sheet read a byte at a time, as the code does it; `SheetClaims` says that this gives `sheet_answer`. Definitions only.
-use Rattle.std.specs.Prelude.{ℕ, ◌+◌, Bool, cond, eqb, ltb, take, set, replicate}
+use Rattle.std.specs.Prelude.{ℕ, ◌+◌, Bool, cond, eqb, ltb, take, set, replicate, None}
 use Rattle.sheet_lines.specs.Lines.{line_of}
-use Rattle.sheet_lines.specs.declared.line.SheetLine.TheVariants.{Wrong}
 use Rattle.taken_lines.specs.Taken.{empty_sheet, stopped_at, with_line}
 use Rattle.taken_lines.specs.declared.taken.Sheet.{Sheet}
 use Rattle.sheet_bytes.specs.declared.bytes.Reading.{Reading}
@@ -24,11 +23,11 @@ abbrev pub byte_kept : Reading → ℕ → Reading
 byte_kept r b = record { sheet = r.sheet; line = set r.line r.length b; length = r.length + 1 }
 
 abbrev pub too_long : Reading → Reading
-too_long r = record { sheet = with_line r.sheet Wrong; line = r.line; length = r.length }
+too_long r = record { sheet = with_line r.sheet None; line = r.line; length = r.length }
 
 unfoldable pub byte_taken : Reading → ℕ → Reading
 byte_taken r b = cond (stopped_in r) r (cond (ltb r.length longest) (cond (eqb b 10) (line_taken r b) (byte_kept r b)) (too_long r))
 
 -- the sheet at the end of the input: a line that has not ended is of wrong form
 unfoldable pub ended_of : Reading → Sheet
-ended_of r = cond (eqb r.length 0) r.sheet (with_line r.sheet Wrong)
+ended_of r = cond (eqb r.length 0) r.sheet (with_line r.sheet None)

@@ -3,7 +3,7 @@ ghost use Rattle.std.specs.Prelude.{◌≡◌};
 ghost use mathlib.Core.List.{foldl};
 ghost use Rattle.sheet_bytes.specs.Bytes.{start_of, stopped_in, byte_taken, ended_of};
 
-use sheet_lines::{SheetLine, line_of};
+use sheet_lines::line_of;
 use taken_lines::{Sheet, empty_sheet, has_stopped, with_line};
 
 // No line is longer than an S line: a letter, eleven fields of 12 columns, a line feed.
@@ -38,46 +38,28 @@ pub fn stopped(r: Reading) -> bool
 }
 
 // A piece more. Of what follows a refused line nothing is looked at.
-pub fn feed(r: Reading, piece: &[u8]) -> Reading
+pub fn feed(mut r: Reading, piece: &[u8]) -> Reading
     ensures { result ≡ foldl byte_taken r piece.now }
 {
     if has_stopped(r.sheet) {
         return r;
     }
-    let mut sheet = r.sheet;
-    let mut line = r.line;
-    let mut length = r.length;
-    let mut i = 0;
-    while i < piece.len() {
-        if length < LINE_LENGTH {
-            let b = piece[i];
-            line[length] = b;
-            length += 1;
-            i += 1;
-            if b == LINE_FEED {
-                sheet = with_line(sheet, line_of(&line[..length]));
-                length = 0;
-                if has_stopped(sheet) {
-                    return Reading {
-                        sheet,
-                        line,
-                        length,
-                    };
-                }
+    for b in piece {
+        if r.length >= LINE_LENGTH {
+            r.sheet = with_line(r.sheet, None);
+            return r;
+        }
+        r.line[r.length] = *b;
+        r.length += 1;
+        if *b == LINE_FEED {
+            r.sheet = with_line(r.sheet, line_of(&r.line[..r.length]));
+            r.length = 0;
+            if has_stopped(r.sheet) {
+                return r;
             }
-        } else {
-            return Reading {
-                sheet: with_line(sheet, SheetLine::Wrong),
-                line,
-                length,
-            };
         }
     }
-    Reading {
-        sheet,
-        line,
-        length,
-    }
+    r
 }
 
 // The sheet at the end of the input. A line that has not ended is of wrong form.
@@ -87,5 +69,5 @@ pub fn ended(r: Reading) -> Sheet
     if r.length == 0 {
         return r.sheet;
     }
-    with_line(r.sheet, SheetLine::Wrong)
+    with_line(r.sheet, None)
 }

@@ -1,28 +1,28 @@
 -- Lines that are of wrong form whatever their letter: one without a line feed, and one longer than the longest. Assumes nothing.
-use Prim.Native.Nat.{ℕ, zero, suc, ◌+◌, ◌*◌, ◌<◌, ◌≤◌}
-use mathlib.Core.Path.{◌≡◌, refl, sym, ◌∙◌, ap}
-use mathlib.Core.Bool.{Bool, true, false, not, ◌&&◌, cond}
+use Rattle.std.proofs.Common.{Option, None}
+use Prim.Native.Nat.{ℕ, zero, suc, ◌+◌, ◌*◌, ◌<◌}
+use mathlib.Core.Path.{◌≡◌, refl, sym}
+use mathlib.Core.Bool.{Bool, true, false, not, cond}
 use mathlib.Core.List.{List, [], ◌∷◌}
 use native.Mathlib.Omega.{arith}
 use lib.Dec.{eqb}
 use lib.ListN.{length, get_or}
 use borrow.Author.Tests.{ne_eqb}
-use Rattle.lists.specs.Scans.{each, every}
-use Rattle.lists.proofs.Scanning.{left, right, and_first, and_second}
+use Rattle.lists.specs.Scans.{every}
+use Rattle.lists.proofs.Scanning.{left, right, and_second}
 use Rattle.sheet_lines.specs.declared.fields.Form.{Form}
 use Rattle.sheet_lines.specs.declared.line.SheetLine.{SheetLine}
-use Rattle.sheet_lines.specs.declared.line.SheetLine.TheVariants.{Times, Order, Station, Cable, Breaker, Wrong}
-use Rattle.sheet_lines.specs.Fields.{formed, length_of, is_whole, is_real}
+use Rattle.sheet_lines.specs.Fields.{formed, length_of}
 use Rattle.sheet_lines.specs.Lines.{letter_t, letter_o, letter_s, letter_c, letter_b, times_form, order_form, station_form, cable_form, times_line, order_line, station_line, cable_line, breaker_line, line_of}
 
 -- whatever the letter is
-whichever : (a b c d e : Bool) → cond a Wrong (cond b Wrong (cond c Wrong (cond d Wrong (cond e Wrong Wrong)))) ≡ Wrong
-whichever true b c d e = refl
-whichever false true c d e = refl
-whichever false false true d e = refl
-whichever false false false true e = refl
-whichever false false false false true = refl
-whichever false false false false false = refl
+whichever : (w : Option SheetLine) (a b c d e : Bool) → cond a w (cond b w (cond c w (cond d w (cond e w w)))) ≡ w
+whichever w true b c d e = refl
+whichever w false true c d e = refl
+whichever w false false true d e = refl
+whichever w false false false true e = refl
+whichever w false false false false true = refl
+whichever w false false false false false = refl
 
 -- no line feed among these bytes
 abbrev pub feedless : List ℕ → Bool
@@ -30,18 +30,18 @@ feedless bs = every (λ b. not (eqb b 10)) bs
 
 module _ (line : List ℕ) where
   -- C and B lines have one form
-  wrong_by : formed line times_form ≡ false → formed line order_form ≡ false → formed line station_form ≡ false → formed line cable_form ≡ false → line_of line ≡ Wrong
+  wrong_by : formed line times_form ≡ false → formed line order_form ≡ false → formed line station_form ≡ false → formed line cable_form ≡ false → line_of line ≡ None
   unfolding line_of times_line order_line station_line cable_line breaker_line
   wrong_by t o s c =
       rw (t, o, s, c)
-      (whichever (eqb (get_or line 0 0) letter_t) (eqb (get_or line 0 0) letter_o) (eqb (get_or line 0 0) letter_s) (eqb (get_or line 0 0) letter_c) (eqb (get_or line 0 0) letter_b))
+      (whichever None (eqb (get_or line 0 0) letter_t) (eqb (get_or line 0 0) letter_o) (eqb (get_or line 0 0) letter_s) (eqb (get_or line 0 0) letter_c) (eqb (get_or line 0 0) letter_b))
 
   -- a line of another length
   not_long : (f : Form) → (length line ≡ length_of (f.wholes + f.reals) → ⊥) → formed line f ≡ false
   unfolding formed
   not_long f h = rw (ne_eqb (length line) (length_of (f.wholes + f.reals)) h)
 
-  pub too_long : 134 < length line → line_of line ≡ Wrong
+  pub too_long : 134 < length line → line_of line ≡ None
   too_long h =
       wrong_by
       (not_long times_form (λ e. omega arith))
@@ -66,5 +66,5 @@ unfolding formed
 no_feed line f h =
     rw (no_feed_at line (1 + 12 * (f.wholes + f.reals)) h, and_second (eqb (length line) (length_of (f.wholes + f.reals))) false refl)
 
-pub unended : (line : List ℕ) → feedless line ≡ true → line_of line ≡ Wrong
+pub unended : (line : List ℕ) → feedless line ≡ true → line_of line ≡ None
 unended line h = wrong_by line (no_feed line times_form h) (no_feed line order_form h) (no_feed line station_form h) (no_feed line cable_form h)

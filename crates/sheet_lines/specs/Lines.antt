@@ -1,5 +1,5 @@
 -- What a line of a sheet says, as document 01.9 has it. Definitions only.
-use Rattle.std.specs.Prelude.{ℕ, Bool, not, ◌&&◌, ◌||◌, cond, List, eqb, leb, get_or, Float}
+use Rattle.std.specs.Prelude.{ℕ, Bool, not, ◌&&◌, ◌||◌, cond, List, eqb, leb, get_or, Float, Option, Some, None}
 use Rattle.std.specs.Float.Ieee.{eq}
 use Rattle.float64.specs.Constants.{nought}
 use Rattle.grid.specs.declared.parts.ConverterTopology.{ConverterTopology}
@@ -12,7 +12,7 @@ use Rattle.grid.specs.declared.parts.DcBreaker.{DcBreaker}
 use Rattle.grid.specs.declared.parts.SweepOrder.{SweepOrder}
 use Rattle.sheet_lines.specs.declared.fields.Form.{Form}
 use Rattle.sheet_lines.specs.declared.line.SheetLine.{SheetLine}
-use Rattle.sheet_lines.specs.declared.line.SheetLine.TheVariants.{Times, Order, Station, Cable, Breaker, Wrong}
+use Rattle.sheet_lines.specs.declared.line.SheetLine.TheVariants.{Times, Order, Station, Cable, Breaker}
 use Rattle.sheet_lines.specs.Fields.{whole, real, formed}
 
 -- ---- the letters, in ASCII
@@ -37,8 +37,8 @@ letter_b = 66
 abbrev pub times_form : Form
 times_form = record { first_whole = 0; wholes = 0; first_real = 0; reals = 2 }
 
-unfoldable pub times_line : List ℕ → SheetLine
-times_line line = cond (formed line times_form) (Times (real line 0) (real line 1)) Wrong
+unfoldable pub times_line : List ℕ → Option SheetLine
+times_line line = cond (formed line times_form) (Some (Times (real line 0) (real line 1))) None
 
 -- ---- O: resistance, inception, low, high
 
@@ -48,8 +48,8 @@ order_form = record { first_whole = 2; wholes = 2; first_real = 0; reals = 2 }
 abbrev pub order_in : List ℕ → SweepOrder
 order_in line = record { fault_resistance = real line 0; inception_time_ms = real line 1; low_tenth = whole line 2; high_tenth = whole line 3 }
 
-unfoldable pub order_line : List ℕ → SheetLine
-order_line line = cond (formed line order_form) (Order (order_in line)) Wrong
+unfoldable pub order_line : List ℕ → Option SheetLine
+order_line line = cond (formed line order_form) (Some (Order (order_in line))) None
 
 -- ---- S: topology (0 LCC, 1 two-level, 2 MMC, 3 hybrid), submodules, id, then the eight station fields in order
 
@@ -79,8 +79,8 @@ station_in line =
 abbrev pub station_known : List ℕ → Bool
 station_known line = leb (whole line 0) 3 && (eqb (whole line 1) 0 || eqb (whole line 0) 2)
 
-unfoldable pub station_line : List ℕ → SheetLine
-station_line line = cond (formed line station_form) (Station (station_in line) (station_known line)) Wrong
+unfoldable pub station_line : List ℕ → Option SheetLine
+station_line line = cond (formed line station_form) (Some (Station (station_in line) (station_known line))) None
 
 -- ---- C: id, from, to, R, L, C, length
 
@@ -99,8 +99,8 @@ cable_in line =
       length_km = real line 6;
     }
 
-unfoldable pub cable_line : List ℕ → SheetLine
-cable_line line = cond (formed line cable_form) (Cable (cable_in line)) Wrong
+unfoldable pub cable_line : List ℕ → Option SheetLine
+cable_line line = cond (formed line cable_form) (Some (Cable (cable_in line))) None
 
 -- ---- B: id, station, kind (0, 1, 2 as in 4), time, second number (0, loss, commutation), current, energy
 
@@ -125,16 +125,16 @@ breaker_in line =
 abbrev pub breaker_known : List ℕ → Bool
 breaker_known line = leb (whole line 2) 2 && (eq (real line 4) nought || not (eqb (whole line 2) 0))
 
-unfoldable pub breaker_line : List ℕ → SheetLine
-breaker_line line = cond (formed line breaker_form) (Breaker (breaker_in line) (breaker_known line)) Wrong
+unfoldable pub breaker_line : List ℕ → Option SheetLine
+breaker_line line = cond (formed line breaker_form) (Some (Breaker (breaker_in line) (breaker_known line))) None
 
 -- ---- any line
 
 -- Any other letter than the five gives 12
-unfoldable pub line_of : List ℕ → SheetLine
+unfoldable pub line_of : List ℕ → Option SheetLine
 line_of line =
     cond (eqb (get_or line 0 0) letter_t) (times_line line)
     (cond (eqb (get_or line 0 0) letter_o) (order_line line)
     (cond (eqb (get_or line 0 0) letter_s) (station_line line)
     (cond (eqb (get_or line 0 0) letter_c) (cable_line line)
-    (cond (eqb (get_or line 0 0) letter_b) (breaker_line line) Wrong))))
+    (cond (eqb (get_or line 0 0) letter_b) (breaker_line line) None))))

@@ -4,7 +4,7 @@ ghost use Rattle.lists.specs.Scans.{each};
 ghost use Rattle.sheet_lines.specs.Fields.{whole, real, is_whole, is_real, formed};
 ghost use Rattle.sheet_lines.specs.Groups.{is_number, wholes_in, reals_in};
 
-use field_columns::{RealField, WholeField};
+use field_values::{real_at, whole_at};
 
 // A letter stands before the fields.
 const LETTER_COLUMNS: usize = 1;
@@ -44,11 +44,7 @@ pub fn whole(line: &[u8], field: usize) -> u64
     requires { field ≤ 11 }
     ensures { result ≡ whole line.now field }
 {
-    let at = LETTER_COLUMNS + FIELD_COLUMNS * field;
-    let WholeField::Whole(n) = field_values::whole_at(line, at) else {
-        return 0;
-    };
-    n
+    whole_at(line, column(field)).unwrap_or(0)
 }
 
 // The number in a field, or 0 where there is none.
@@ -56,11 +52,7 @@ pub fn real(line: &[u8], field: usize) -> f64
     requires { field ≤ 11 }
     ensures { result ≡ real line.now field }
 {
-    let at = LETTER_COLUMNS + FIELD_COLUMNS * field;
-    let RealField::Real(x) = field_values::real_at(line, at) else {
-        return 0.0;
-    };
-    x
+    real_at(line, column(field)).unwrap_or(0.0)
 }
 
 // The whole numbers in the first three fields.
@@ -91,25 +83,26 @@ fn is_whole(line: &[u8], field: usize) -> bool
     requires { field ≤ 11 }
     ensures { result ≡ is_whole line.now field }
 {
-    let at = LETTER_COLUMNS + FIELD_COLUMNS * field;
-    let WholeField::Whole(_) = field_values::whole_at(line, at) else {
-        return false;
-    };
-    true
+    whole_at(line, column(field)).is_some()
 }
 
 fn is_real(line: &[u8], field: usize) -> bool
     requires { field ≤ 11 }
     ensures { result ≡ is_real line.now field }
 {
-    let at = LETTER_COLUMNS + FIELD_COLUMNS * field;
-    let RealField::Real(_) = field_values::real_at(line, at) else {
-        return false;
-    };
-    true
+    real_at(line, column(field)).is_some()
+}
+
+// The first column of a field.
+fn column(field: usize) -> usize
+    requires { field ≤ 11 }
+    ensures { result ≡ 1 + 12 * field }
+{
+    LETTER_COLUMNS + FIELD_COLUMNS * field
 }
 
 // Whether a field is a whole number, or, where `wholes` is false, a number that may have a point.
+// A flag and no closure: so the contracts name the test, where those of a closure would speak of each test that agrees with it.
 fn is_number(line: &[u8], field: usize, wholes: bool) -> bool
     requires { field ≤ 11 }
     ensures { result ≡ is_number wholes line.now field }
@@ -125,11 +118,8 @@ fn are_numbers(line: &[u8], first: usize, count: usize, wholes: bool) -> bool
     requires { first + count ≤ 11 }
     ensures { result ≡ each count (λ k. is_number wholes line.now (first + k)) }
 {
-    let mut k = 0;
-    while k < count {
-        if is_number(line, first + k, wholes) {
-            k += 1;
-        } else {
+    for k in 0..count {
+        if !is_number(line, first + k, wholes) {
             return false;
         }
     }
@@ -137,6 +127,7 @@ fn are_numbers(line: &[u8], first: usize, count: usize, wholes: bool) -> bool
 }
 
 // Whether a line has the fields of a form, a line feed behind them, and nothing else.
+#[tactic(auto, unfolding(crate::specs::Fields::formed))]
 pub fn is_formed(line: &[u8], form: Form) -> bool
     requires { (form.first_whole + form.wholes ≤ 11) × (form.first_real + form.reals ≤ 11) }
     ensures { result ≡ formed line.now form }
@@ -148,8 +139,6 @@ pub fn is_formed(line: &[u8], form: Form) -> bool
     if line[end] != LINE_FEED {
         return false;
     }
-    if are_numbers(line, form.first_whole, form.wholes, true) {
-        return are_numbers(line, form.first_real, form.reals, false);
-    }
-    false
+    are_numbers(line, form.first_whole, form.wholes, true)
+        && are_numbers(line, form.first_real, form.reals, false)
 }

@@ -1,11 +1,11 @@
-// A line to one of the five kinds, or to none.
+// A line to one of the five kinds, or to none where its form is wrong.
 ghost use Rattle.std.specs.Prelude.{◌≡◌};
 ghost use Rattle.sheet_lines.specs.Lines.{line_of, times_line, order_line, station_line, cable_line, breaker_line, topology_of, breaker_type_of};
 
 use crate::fields::{Form, four_reals, is_formed, real, three_wholes, whole};
 use grid::{ConverterStation, ConverterTopology, DcBreaker, DcBreakerType, DcCable, SweepOrder};
 
-// What a line says; one of wrong form says nothing. A station is known if its topology is one of the four and its submodules are 0
+// What a line says. A station is known if its topology is one of the four and its submodules are 0
 // or an MMC's, a breaker if its kind is one of the three and it is not a mechanical one with a second number: rules 6 and 8 refuse others.
 #[derive(Clone, Copy)]
 pub enum SheetLine {
@@ -23,7 +23,6 @@ pub enum SheetLine {
         breaker: DcBreaker,
         known: bool,
     },
-    Wrong,
 }
 
 // The forms of the five lines.
@@ -63,34 +62,35 @@ const BREAKER: Form = Form {
 };
 
 // T: time step, duration.
-fn times_line(line: &[u8]) -> SheetLine
+fn times_line(line: &[u8]) -> Option<SheetLine>
     ensures { result ≡ times_line line.now }
 {
     if is_formed(line, TIMES) {
-        return SheetLine::Times {
+        return Some(SheetLine::Times {
             dt_us: real(line, 0),
             duration_ms: real(line, 1),
-        };
+        });
     }
-    SheetLine::Wrong
+    None
 }
 
 // O: resistance, inception, low tenth, high tenth.
-fn order_line(line: &[u8]) -> SheetLine
+fn order_line(line: &[u8]) -> Option<SheetLine>
     ensures { result ≡ order_line line.now }
 {
     if is_formed(line, ORDER) {
-        return SheetLine::Order(SweepOrder {
+        return Some(SheetLine::Order(SweepOrder {
             fault_resistance: real(line, 0),
             inception_time_ms: real(line, 1),
             low_tenth: whole(line, 2),
             high_tenth: whole(line, 3),
-        });
+        }));
     }
-    SheetLine::Wrong
+    None
 }
 
-// The topology of a number. One beyond the four is refused by rule 6, and read as the first.
+// The topology of a number. Each number has one: one beyond the four is refused by rule 6, and read as the first.
+#[tactic(auto, unfolding(crate::specs::Lines::topology_of))]
 fn topology_of(topology: u64, submodules: u64) -> ConverterTopology
     ensures { result ≡ topology_of topology submodules }
 {
@@ -105,7 +105,7 @@ fn topology_of(topology: u64, submodules: u64) -> ConverterTopology
 }
 
 // S: topology, submodules, id, then the eight fields of a station.
-fn station_line(line: &[u8]) -> SheetLine
+fn station_line(line: &[u8]) -> Option<SheetLine>
     ensures { result ≡ station_line line.now }
 {
     if is_formed(line, STATION) {
@@ -127,19 +127,19 @@ fn station_line(line: &[u8]) -> SheetLine
             sm_capacitance_uf: inner.fourth,
         };
         let known = (topology <= 3) & ((submodules == 0) | (topology == 2));
-        return SheetLine::Station { station, known };
+        return Some(SheetLine::Station { station, known });
     }
-    SheetLine::Wrong
+    None
 }
 
 // C: id, from, to, R, L, C, length.
-fn cable_line(line: &[u8]) -> SheetLine
+fn cable_line(line: &[u8]) -> Option<SheetLine>
     ensures { result ≡ cable_line line.now }
 {
     if is_formed(line, CABLE) {
         let numbers = three_wholes(line);
         let rates = four_reals(line, 3);
-        return SheetLine::Cable(DcCable {
+        return Some(SheetLine::Cable(DcCable {
             id: numbers.first,
             from_station: numbers.second,
             to_station: numbers.third,
@@ -147,12 +147,13 @@ fn cable_line(line: &[u8]) -> SheetLine
             l_per_km: rates.second,
             c_per_km: rates.third,
             length_km: rates.fourth,
-        });
+        }));
     }
-    SheetLine::Wrong
+    None
 }
 
-// The kind of a breaker with its numbers. One beyond the three is refused by rule 8, and read as the first.
+// The kind of a breaker with its numbers. Each number has a kind: one beyond the three is refused by rule 8, and read as the first.
+#[tactic(auto, unfolding(crate::specs::Lines::breaker_type_of))]
 fn breaker_type_of(kind: u64, time: f64, second: f64) -> DcBreakerType
     ensures { result ≡ breaker_type_of kind time second }
 {
@@ -172,7 +173,7 @@ fn breaker_type_of(kind: u64, time: f64, second: f64) -> DcBreakerType
 }
 
 // B: id, station, kind, time, second number, current, energy.
-fn breaker_line(line: &[u8]) -> SheetLine
+fn breaker_line(line: &[u8]) -> Option<SheetLine>
     ensures { result ≡ breaker_line line.now }
 {
     if is_formed(line, BREAKER) {
@@ -188,17 +189,18 @@ fn breaker_line(line: &[u8]) -> SheetLine
             energy_absorption_mj: limits.fourth,
         };
         let known = (kind <= 2) & ((second == 0.0) | (kind != 0));
-        return SheetLine::Breaker { breaker, known };
+        return Some(SheetLine::Breaker { breaker, known });
     }
-    SheetLine::Wrong
+    None
 }
 
-// What a line says, its line feed in it.
-pub fn line_of(line: &[u8]) -> SheetLine
+// What a line says, its line feed in it; nothing if its form is wrong.
+#[tactic(auto, unfolding(crate::specs::Lines::line_of))]
+pub fn line_of(line: &[u8]) -> Option<SheetLine>
     ensures { result ≡ line_of line.now }
 {
     if line.len() == 0 {
-        return SheetLine::Wrong;
+        return None;
     }
     match line[0] {
         b'T' => times_line(line),
@@ -206,6 +208,6 @@ pub fn line_of(line: &[u8]) -> SheetLine
         b'S' => station_line(line),
         b'C' => cable_line(line),
         b'B' => breaker_line(line),
-        _ => SheetLine::Wrong,
+        _ => None,
     }
 }

@@ -17,7 +17,7 @@ pub fn counted_on(count: usize) -> usize
     if count < MOST_LINES { count + 1 } else { count }
 }
 
-// A grid with a station more. Past the last place it is counted, and not kept.
+// A grid with a station more. Past the last place it is counted, and not kept. The three differ in the array and the count that they name.
 pub fn with_station(g: DcSwitchingSimulator, station: ConverterStation) -> DcSwitchingSimulator
     ensures { result ≡ station_taken g station }
 {
@@ -26,7 +26,6 @@ pub fn with_station(g: DcSwitchingSimulator, station: ConverterStation) -> DcSwi
     grid.n_stations = counted_on(n);
     if n < MOST_STATIONS {
         grid.stations[n] = station;
-        return grid;
     }
     grid
 }
@@ -40,7 +39,6 @@ pub fn with_cable(g: DcSwitchingSimulator, cable: DcCable) -> DcSwitchingSimulat
     grid.n_cables = counted_on(n);
     if n < MOST_CABLES {
         grid.cables[n] = cable;
-        return grid;
     }
     grid
 }
@@ -54,7 +52,6 @@ pub fn with_breaker(g: DcSwitchingSimulator, breaker: DcBreaker) -> DcSwitchingS
     grid.n_breakers = counted_on(n);
     if n < MOST_BREAKERS {
         grid.breakers[n] = breaker;
-        return grid;
     }
     grid
 }

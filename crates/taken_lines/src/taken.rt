@@ -3,7 +3,7 @@ ghost use Rattle.std.specs.Prelude.{◌≡◌};
 ghost use Rattle.taken_lines.specs.Taken.{first_of, stopped_at, contents_with, with_line, empty_sheet};
 
 use grid::{DcSwitchingSimulator, SweepOrder};
-use line_order::{line_refusal, place_of};
+use line_order::{LineFault, check_line, place_of};
 use sheet_lines::SheetLine;
 use sheet_parts::{MOST_LINES, counted_on, with_breaker, with_cable, with_station};
 
@@ -19,8 +19,8 @@ pub struct Sheet {
     pub bad_station: usize,
     pub bad_cable: usize,
     pub bad_breaker: usize,
-    // 12 or 13 once the line behind these is refused by it, else 0
-    pub refusal: u64,
+    // why the line behind these is refused, once it is
+    pub fault: Option<LineFault>,
 }
 
 // A sheet of which no line is read.
@@ -40,7 +40,7 @@ pub fn empty_sheet() -> Sheet
         bad_station: 0,
         bad_cable: 0,
         bad_breaker: 0,
-        refusal: 0,
+        fault: None,
     }
 }
 
@@ -48,7 +48,7 @@ pub fn empty_sheet() -> Sheet
 pub fn has_stopped(s: Sheet) -> bool
     ensures { result ≡ stopped_at s }
 {
-    (s.refusal != 0) | (MOST_LINES <= s.lines)
+    s.fault.is_some() | (MOST_LINES <= s.lines)
 }
 
 // The number of the first bad line: the one known before, or this one if it is bad.
@@ -62,54 +62,63 @@ fn first_of(before: usize, bad: bool, line: usize) -> usize
 }
 
 // What a line adds to the grid and the order, and whether it is the first bad one of its letter.
-fn contents_with(s: Sheet, line: SheetLine) -> Sheet
+#[tactic(auto, unfolding(crate::specs::Taken::contents_with))]
+fn contents_with(s: Sheet, line: Option<SheetLine>) -> Sheet
     ensures { result ≡ contents_with s line }
 {
-    let mut t = s;
     let number = counted_on(s.lines);
     match line {
-        SheetLine::Times { dt_us, duration_ms } => {
-            t.grid = DcSwitchingSimulator::new(dt_us, duration_ms);
-        }
-        SheetLine::Order(order) => {
-            t.order = order;
-        }
-        SheetLine::Station { station, known } => {
+        Some(SheetLine::Times { dt_us, duration_ms }) => Sheet {
+            grid: DcSwitchingSimulator::new(dt_us, duration_ms),
+            ..s
+        },
+        Some(SheetLine::Order(order)) => Sheet { order, ..s },
+        Some(SheetLine::Station { station, known }) => {
             let within = part_checks::check_station(station);
-            t.grid = with_station(s.grid, station);
-            t.bad_station = first_of(s.bad_station, !(known & within), number);
+            Sheet {
+                grid: with_station(s.grid, station),
+                bad_station: first_of(s.bad_station, !(known & within), number),
+                ..s
+            }
         }
-        SheetLine::Cable(cable) => {
+        Some(SheetLine::Cable(cable)) => {
             let within = part_checks::check_cable(cable);
-            t.grid = with_cable(s.grid, cable);
-            t.bad_cable = first_of(s.bad_cable, !within, number);
+            Sheet {
+                grid: with_cable(s.grid, cable),
+                bad_cable: first_of(s.bad_cable, !within, number),
+                ..s
+            }
         }
-        SheetLine::Breaker { breaker, known } => {
+        Some(SheetLine::Breaker { breaker, known }) => {
             let within = part_checks::check_breaker(breaker);
-            t.grid = with_breaker(s.grid, breaker);
-            t.bad_breaker = first_of(s.bad_breaker, !(known & within), number);
+            Sheet {
+                grid: with_breaker(s.grid, breaker),
+                bad_breaker: first_of(s.bad_breaker, !(known & within), number),
+                ..s
+            }
         }
-        SheetLine::Wrong => {}
+        None => s,
     }
-    t
 }
 
 // The sheet with a line more, or with its refusal.
-pub fn with_line(s: Sheet, line: SheetLine) -> Sheet
+#[tactic(auto, using(crate::proofs::Ways::taken_way, crate::proofs::Ways::stopped_way))]
+pub fn with_line(s: Sheet, line: Option<SheetLine>) -> Sheet
     ensures { result ≡ with_line s line }
 {
     if has_stopped(s) {
         return s;
     }
     let place = place_of(line);
-    let refusal = line_refusal(s.lines, s.last, place);
-    if refusal == 0 {
-        let mut t = contents_with(s, line);
-        t.lines = counted_on(s.lines);
-        t.last = place;
-        return t;
+    match check_line(s.lines, s.last, place) {
+        Ok(()) => Sheet {
+            lines: counted_on(s.lines),
+            last: place,
+            ..contents_with(s, line)
+        },
+        Err(fault) => Sheet {
+            fault: Some(fault),
+            ..s
+        },
     }
-    let mut t = s;
-    t.refusal = refusal;
-    t
 }

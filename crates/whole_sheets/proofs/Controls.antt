@@ -1,4 +1,5 @@
 -- Worked examples of the definitions: they are believed, so a wrong clause need break no other proof. Written by hand from document 01.9.
+use Rattle.std.proofs.Common.{Some, None}
 use mathlib.Core.Path.{◌≡◌, refl}
 use mathlib.Core.Bool.{true, false}
 use mathlib.Core.List.{List, [], ◌∷◌}
@@ -14,12 +15,12 @@ use Rattle.grid.specs.declared.parts.ConverterStation.{ConverterStation}
 use Rattle.grid.specs.declared.parts.ConverterTopology.TheVariants.{Lcc}
 use Rattle.grid.specs.declared.parts.SweepOrder.{SweepOrder}
 use Rattle.grid.specs.declared.simulator.DcSwitchingSimulator.{DcSwitchingSimulator}
-use Rattle.sheet_lines.specs.declared.line.SheetLine.TheVariants.{Times, Order, Station, Cable, Breaker, Wrong}
+use Rattle.sheet_lines.specs.declared.line.SheetLine.TheVariants.{Times, Order, Station, Cable, Breaker}
 use Rattle.line_order.specs.Ordered.{in_order, line_refusal}
 use Rattle.whole_sheets.specs.Sheets.{lines_of, most_lines, no_order, refused, form_refusal, shown_at, first_bad, bad_station, bad_cable, bad_breaker, refusal_of, answered}
 
 -- no line: 13 at line 1; T: 13 at line 2; O: 13 at line 1; T S: 13 at line 2; T T: 13 at line 2; T O T: 13 at line 3; T O O: 13 at line 3; T O S C S: 13 at line 5; T O C B C: 13 at line 5; T O S, a line of wrong form, T: 12 at line 4; T, then one of wrong form where O is missing: 12 at line 2; T O S C B: none; T O: none; T O S B B: none
-orders_are : (form_refusal 0 0 ([]) ≡ refused 13 1) × (form_refusal 0 0 ((Times nought nought) ∷ []) ≡ refused 13 2) × (form_refusal 0 0 ((Order no_order) ∷ []) ≡ refused 13 1) × (form_refusal 0 0 ((Times nought nought) ∷ (Station blank_station true) ∷ []) ≡ refused 13 2) × (form_refusal 0 0 ((Times nought nought) ∷ (Times nought nought) ∷ []) ≡ refused 13 2) × (form_refusal 0 0 ((Times nought nought) ∷ (Order no_order) ∷ (Times nought nought) ∷ []) ≡ refused 13 3) × (form_refusal 0 0 ((Times nought nought) ∷ (Order no_order) ∷ (Order no_order) ∷ []) ≡ refused 13 3) × (form_refusal 0 0 ((Times nought nought) ∷ (Order no_order) ∷ (Station blank_station true) ∷ (Cable blank_cable) ∷ (Station blank_station true) ∷ []) ≡ refused 13 5) × (form_refusal 0 0 ((Times nought nought) ∷ (Order no_order) ∷ (Cable blank_cable) ∷ (Breaker blank_breaker true) ∷ (Cable blank_cable) ∷ []) ≡ refused 13 5) × (form_refusal 0 0 ((Times nought nought) ∷ (Order no_order) ∷ (Station blank_station true) ∷ Wrong ∷ (Times nought nought) ∷ []) ≡ refused 12 4) × (form_refusal 0 0 ((Times nought nought) ∷ Wrong ∷ []) ≡ refused 12 2) × (form_refusal 0 0 ((Times nought nought) ∷ (Order no_order) ∷ (Station blank_station true) ∷ (Cable blank_cable) ∷ (Breaker blank_breaker true) ∷ []) ≡ refused 0 0) × (form_refusal 0 0 ((Times nought nought) ∷ (Order no_order) ∷ []) ≡ refused 0 0) × (form_refusal 0 0 ((Times nought nought) ∷ (Order no_order) ∷ (Station blank_station true) ∷ (Breaker blank_breaker true) ∷ (Breaker blank_breaker true) ∷ []) ≡ refused 0 0)
+orders_are : (form_refusal 0 0 ([]) ≡ refused 13 1) × (form_refusal 0 0 (Some (Times nought nought) ∷ []) ≡ refused 13 2) × (form_refusal 0 0 (Some (Order no_order) ∷ []) ≡ refused 13 1) × (form_refusal 0 0 (Some (Times nought nought) ∷ (Some (Station blank_station true)) ∷ []) ≡ refused 13 2) × (form_refusal 0 0 (Some (Times nought nought) ∷ (Some (Times nought nought)) ∷ []) ≡ refused 13 2) × (form_refusal 0 0 (Some (Times nought nought) ∷ (Some (Order no_order)) ∷ (Some (Times nought nought)) ∷ []) ≡ refused 13 3) × (form_refusal 0 0 (Some (Times nought nought) ∷ (Some (Order no_order)) ∷ (Some (Order no_order)) ∷ []) ≡ refused 13 3) × (form_refusal 0 0 (Some (Times nought nought) ∷ (Some (Order no_order)) ∷ (Some (Station blank_station true)) ∷ (Some (Cable blank_cable)) ∷ (Some (Station blank_station true)) ∷ []) ≡ refused 13 5) × (form_refusal 0 0 (Some (Times nought nought) ∷ (Some (Order no_order)) ∷ (Some (Cable blank_cable)) ∷ (Some (Breaker blank_breaker true)) ∷ (Some (Cable blank_cable)) ∷ []) ≡ refused 13 5) × (form_refusal 0 0 (Some (Times nought nought) ∷ (Some (Order no_order)) ∷ (Some (Station blank_station true)) ∷ None ∷ (Some (Times nought nought)) ∷ []) ≡ refused 12 4) × (form_refusal 0 0 (Some (Times nought nought) ∷ None ∷ []) ≡ refused 12 2) × (form_refusal 0 0 (Some (Times nought nought) ∷ (Some (Order no_order)) ∷ (Some (Station blank_station true)) ∷ (Some (Cable blank_cable)) ∷ (Some (Breaker blank_breaker true)) ∷ []) ≡ refused 0 0) × (form_refusal 0 0 (Some (Times nought nought) ∷ (Some (Order no_order)) ∷ []) ≡ refused 0 0) × (form_refusal 0 0 (Some (Times nought nought) ∷ (Some (Order no_order)) ∷ (Some (Station blank_station true)) ∷ (Some (Breaker blank_breaker true)) ∷ (Some (Breaker blank_breaker true)) ∷ []) ≡ refused 0 0)
 unfolding line_refusal in_order
 orders_are = (refl, refl, refl, refl, refl, refl, refl, refl, refl, refl, refl, refl, refl, refl)
 
@@ -28,11 +29,11 @@ lines_are : lines_of (84 ∷ 10 ∷ 10 ∷ 79 ∷ 32 ∷ []) ≡ (84 ∷ 10 ∷ 
 lines_are = refl
 
 -- T, O, two stations that are not known: the first bad S line is line 3
-bad_is : first_bad bad_station 0 ((Times nought nought) ∷ (Order no_order) ∷ Station blank_station false ∷ Station blank_station false ∷ (Cable blank_cable) ∷ []) ≡ 3
+bad_is : first_bad bad_station 0 (Some (Times nought nought) ∷ (Some (Order no_order)) ∷ (Some (Station blank_station false)) ∷ (Some (Station blank_station false)) ∷ (Some (Cable blank_cable)) ∷ []) ≡ 3
 bad_is = refl
 
 -- X's line: T's for 4, O's for 9, the first bad one for 6, and none for 1, 2, 3, 5
-shown_are : (shown_at ((Times nought nought) ∷ (Order no_order) ∷ Station blank_station false ∷ []) 4 ≡ 1) × (shown_at ((Times nought nought) ∷ (Order no_order) ∷ Station blank_station false ∷ []) 6 ≡ 3) × (shown_at ((Times nought nought) ∷ (Order no_order) ∷ []) 9 ≡ 2) × (shown_at ((Times nought nought) ∷ (Order no_order) ∷ []) 3 ≡ 0) × (shown_at ((Times nought nought) ∷ (Order no_order) ∷ []) 1 ≡ 0) × (shown_at ((Times nought nought) ∷ (Order no_order) ∷ []) 2 ≡ 0) × (shown_at ((Times nought nought) ∷ (Order no_order) ∷ []) 5 ≡ 0)
+shown_are : (shown_at (Some (Times nought nought) ∷ (Some (Order no_order)) ∷ (Some (Station blank_station false)) ∷ []) 4 ≡ 1) × (shown_at (Some (Times nought nought) ∷ (Some (Order no_order)) ∷ (Some (Station blank_station false)) ∷ []) 6 ≡ 3) × (shown_at (Some (Times nought nought) ∷ (Some (Order no_order)) ∷ []) 9 ≡ 2) × (shown_at (Some (Times nought nought) ∷ (Some (Order no_order)) ∷ []) 3 ≡ 0) × (shown_at (Some (Times nought nought) ∷ (Some (Order no_order)) ∷ []) 1 ≡ 0) × (shown_at (Some (Times nought nought) ∷ (Some (Order no_order)) ∷ []) 2 ≡ 0) × (shown_at (Some (Times nought nought) ∷ (Some (Order no_order)) ∷ []) 5 ≡ 0)
 unfolding shown_at
 shown_are = (refl, refl, refl, refl, refl, refl, refl)
 
@@ -53,12 +54,12 @@ good_station =
     }
 
 -- a station in range that is known, one that is not, and one of 0 kV; a cable and a breaker of zeros, and that breaker not known
-bad_are : (bad_station (Station good_station true) ≡ false) × (bad_station (Station good_station false) ≡ true) × (bad_station (Station blank_station true) ≡ true) × (bad_cable (Cable blank_cable) ≡ false) × (bad_breaker (Breaker blank_breaker true) ≡ false) × (bad_breaker (Breaker blank_breaker false) ≡ true)
+bad_are : (bad_station (Some (Station good_station true)) ≡ false) × (bad_station (Some (Station good_station false)) ≡ true) × (bad_station (Some (Station blank_station true)) ≡ true) × (bad_cable (Some (Cable blank_cable)) ≡ false) × (bad_breaker (Some (Breaker blank_breaker true)) ≡ false) × (bad_breaker (Some (Breaker blank_breaker false)) ≡ true)
 unfolding topology_ok station_ok cable_ok breaker_type_ok breaker_ok real_in whole_in le of_int of_bits round
 bad_are = (refl, refl, refl, refl, refl, refl)
 
 -- T and a line of wrong form: 12 comes before the rules 1 and 2, which are broken too
-form_first : refusal_of (Times nought nought ∷ Wrong ∷ []) ≡ refused 12 2
+form_first : refusal_of (Some (Times nought nought) ∷ None ∷ []) ≡ refused 12 2
 unfolding refusal_of line_refusal in_order
 form_first = refl
 

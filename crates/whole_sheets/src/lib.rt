@@ -1,6 +1,6 @@
-// What a whole sheet is answered by, as document 01 has it: definitions, and the two structs of an answer. No function.
+// What a whole sheet is answered by, as document 01 has it: definitions, and the types of an answer.
 #![tactic(auto)]
 
 mod answers;
 
-pub use answers::{Refusal, SheetAnswer};
+pub use answers::{SheetContents, SheetFault, SheetRefusal};

@@ -7,6 +7,6 @@ pub returns-then-n-lt-MOST_BREAKERS : goal.returns-then-n-lt-MOST_BREAKERS
 unfolding breaker_taken
 returns-then-n-lt-MOST_BREAKERS c = rw (lt-ltb _ _ c.if-n-lt-MOST_BREAKERS.true, c.counted_on.ensures)
 
-pub returns : goal.returns
+pub returns-else-n-lt-MOST_BREAKERS : goal.returns-else-n-lt-MOST_BREAKERS
 unfolding breaker_taken
-returns c = rw (le-ltb _ _ c.if-n-lt-MOST_BREAKERS.false, c.counted_on.ensures)
+returns-else-n-lt-MOST_BREAKERS c = rw (le-ltb _ _ c.if-n-lt-MOST_BREAKERS.false, c.counted_on.ensures)

@@ -7,6 +7,6 @@ pub returns-then-n-lt-MOST_CABLES : goal.returns-then-n-lt-MOST_CABLES
 unfolding cable_taken
 returns-then-n-lt-MOST_CABLES c = rw (lt-ltb _ _ c.if-n-lt-MOST_CABLES.true, c.counted_on.ensures)
 
-pub returns : goal.returns
+pub returns-else-n-lt-MOST_CABLES : goal.returns-else-n-lt-MOST_CABLES
 unfolding cable_taken
-returns c = rw (le-ltb _ _ c.if-n-lt-MOST_CABLES.false, c.counted_on.ensures)
+returns-else-n-lt-MOST_CABLES c = rw (le-ltb _ _ c.if-n-lt-MOST_CABLES.false, c.counted_on.ensures)

@@ -7,6 +7,6 @@ pub returns-then-n-lt-MOST_STATIONS : goal.returns-then-n-lt-MOST_STATIONS
 unfolding station_taken
 returns-then-n-lt-MOST_STATIONS c = rw (lt-ltb _ _ c.if-n-lt-MOST_STATIONS.true, c.counted_on.ensures)
 
-pub returns : goal.returns
+pub returns-else-n-lt-MOST_STATIONS : goal.returns-else-n-lt-MOST_STATIONS
 unfolding station_taken
-returns c = rw (le-ltb _ _ c.if-n-lt-MOST_STATIONS.false, c.counted_on.ensures)
+returns-else-n-lt-MOST_STATIONS c = rw (le-ltb _ _ c.if-n-lt-MOST_STATIONS.false, c.counted_on.ensures)

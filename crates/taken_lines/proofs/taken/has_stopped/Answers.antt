@@ -1,8 +1,7 @@
 -- `has_stopped` meets its contract. Assumes nothing.
-use mathlib.Core.Path.{refl}
 use Rattle.taken_lines.specs.Taken.{stopped_at}
 use Rattle.taken_lines.proofs.taken.has_stopped.Goals as goal
 
 pub returns : goal.returns
 unfolding stopped_at
-returns c = refl
+returns c = rw c.is_some.ensures

@@ -1,7 +1,7 @@
--- `line_refusal` meets its contract. Assumes nothing.
+-- `check_line` meets its contract. Assumes nothing.
 use borrow.Author.Tests.{eq-eqb, ne_eqb, lt-ltb, le-ltb, le-leb, lt-leb}
 use Rattle.line_order.specs.Ordered.{in_order, line_refusal}
-use Rattle.line_order.proofs.order.line_refusal.Goals as goal
+use Rattle.line_order.proofs.order.check_line.Goals as goal
 
 pub returns-then-place-eq-NO_PLACE : goal.returns-then-place-eq-NO_PLACE
 unfolding line_refusal in_order
