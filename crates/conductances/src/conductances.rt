@@ -23,11 +23,9 @@ fn conductances(m: &mut [f64; 1024], cables: [DcCable; MOST_CABLES], n_cables: u
     requires { (n_cables ≤ 64) × (n ≤ 32) × (m.old ≡ blank 1024 nought) }
     ensures { m.new ≡ matrix n (take n_cables cables) }
 {
-    let mut i = 0;
-    while i < n_cables {
+    for i in 0..n_cables {
         let c = cables[i];
         connect(m, c, n);
-        i += 1;
     }
 }
 

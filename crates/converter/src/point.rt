@@ -14,7 +14,7 @@ pub struct ConverterOperatingPoint {
     pub losses_mw: f64,
 }
 
-// A point of zeros, as it stands beside a refusal.
+// A point of zeros, as it stands past the count of stations.
 pub fn no_point() -> ConverterOperatingPoint
     ensures { result ≡ blank_point }
 {

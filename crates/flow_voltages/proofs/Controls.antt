@@ -1,7 +1,7 @@
 -- Worked examples of the definitions: they are believed, so a wrong clause need break no other proof. The answers are the published Rust's.
 use mathlib.Core.Path.{◌≡◌, refl, ap, ◌∙◌}
 use mathlib.Core.Bool.{Bool, true}
-use mathlib.Core.List.{List, [], ◌∷◌}
+use mathlib.Core.List.{[], ◌∷◌}
 use Prim.Native.Nat.{ℕ}
 use lib.Ieee.{Float, of_bits, of_int, round, neg, add, sub, mul, div, lt, eq, is_nan}
 use Rattle.lists.specs.Tables.{tab, padded}

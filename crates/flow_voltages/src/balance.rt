@@ -22,10 +22,8 @@ pub fn station_currents(
     requires { (n ≤ 32) × Symmetric n m.now × (sums.old ≡ blank 32 nought) }
     ensures { sums.new ≡ currents m.now n v.now }
 {
-    let mut j = 0;
-    while j < n {
+    for j in 0..n {
         add_column(sums, m, j, v[j], n);
-        j += 1;
     }
 }
 
@@ -34,10 +32,8 @@ fn add_column(sums: &mut [f64; MOST_STATIONS], m: &[f64; 1024], j: usize, x: f64
     requires { (j < 32) × (n ≤ 32) }
     ensures { sums.new ≡ over n (λ i. of sums.old i ⊕ cell m.now j i ⊗ x) nan sums.old }
 {
-    let mut i = 0;
-    while i < n {
+    for i in 0..n {
         sums[i] = sums[i] + m[j * MOST_STATIONS + i] * x;
-        i += 1;
     }
 }
 
@@ -70,9 +66,7 @@ fn power_mismatches(
     requires { (n ≤ 32) × (d.old ≡ blank 32 nought) }
     ensures { d.new ≡ but_first n (λ i. of wanted.now i ⊖ of v.now i ⊗ of currents.now i) }
 {
-    let mut i = 0;
-    while i + 1 < n {
-        i += 1;
+    for i in 1..n {
         d[i] = wanted[i] - v[i] * currents[i];
     }
 }
@@ -83,9 +77,7 @@ fn largest_mismatch(d: &[f64; MOST_STATIONS], n: usize) -> f64
     ensures { result ≡ largest d.now (n - 1) }
 {
     let mut most = 0.0;
-    let mut i = 0;
-    while i + 1 < n {
-        i += 1;
+    for i in 1..n {
         most = max(most, abs(d[i]));
     }
     most

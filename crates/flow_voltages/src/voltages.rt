@@ -23,6 +23,7 @@ const MOST_PASSES: u64 = 50;
 // The mismatch, in MW, below which the passes stop.
 const TOLERANCE: f64 = 0.000001;
 
+// 000's voltages, which stand where they have not converged too.
 #[derive(Clone, Copy)]
 pub struct Voltages {
     pub v_dc_kv: [f64; MOST_STATIONS],
@@ -37,6 +38,7 @@ pub struct Found {
     pub i_dc_ka: [f64; MOST_STATIONS],
 }
 
+// What the loop over passes yields by its break.
 #[derive(Clone, Copy)]
 struct Outcome {
     converged: bool,
@@ -79,6 +81,7 @@ fn run_passes(stations: [ConverterStation; MOST_STATIONS], n: usize, m: &[f64; 1
     read_ratings(&mut rated, &mut wanted, stations, n);
     let mut v = rated;
     let mut passes = 0;
+    // A loop that is left by break, as the scope document has it.
     let outcome = loop {
         if passes == MOST_PASSES {
             break Outcome {
@@ -115,12 +118,10 @@ fn read_ratings(
     ensures rated { rated.new ≡ rated_voltages stations n }
     ensures wanted { wanted.new ≡ wanted_powers stations n }
 {
-    let mut i = 0;
-    while i < n {
+    for i in 0..n {
         let s = stations[i];
         rated[i] = s.v_dc_rated_kv;
         wanted[i] = wanted_power(i, s.p_rated_mw);
-        i += 1;
     }
 }
 

@@ -3,15 +3,18 @@
 use mathlib.Core.Path.{◌≡◌, sym, ◌∙◌}
 use mathlib.Core.Bool.{true}
 use lib.Ieee.{le}
+use Rattle.std.specs.Prelude.{Ok, Err, IfOk}
+use Rattle.std.proofs.lemmas.Result.{IfOk-weaker}
 use contract.Lifetimes.{Lfts}
 use borrow.Fn.World.{ArgsD, ResD}
 use borrow.Fn.Kinds.{ended_of}
 use denote.Triple.Clauses.{AtExit}
 use Rattle.float64.specs.Constants.{pi}
 use Rattle.float64.specs.Arithmetic.{◌⊖◌, ◌⊗◌, ◌⊘◌}
-use Rattle.rules.specs.Studies.{number_of}
+use Rattle.rules.specs.Studies.{rule_number, number_of}
+use Rattle.rules.specs.declared.studies.Refusal.TheVariants.{StationOutside}
+use Rattle.rules.proofs.Outcomes.{err_at, ok_at}
 use Rattle.converter.specs.Constants.{three, least}
-use Rattle.converter.specs.Point.{blank_point}
 use Rattle.converter.specs.Lcc.{cos_alpha_of, vd0, xc, lcc_point}
 use Rattle.converter.specs.Vsc.{vsc_point}
 use Rattle.converter.proofs.Claims.{voltage_claims}
@@ -27,25 +30,27 @@ module _ (κs : Lfts 0) (a : ArgsD lcc-contract.signature κs) (r : ResD lcc-con
   pub lcc_any : lcc-reads.Asked κs a
   lcc_any = tt
 
-  pub lcc_accepted : lcc-reads.Learnt κs a r e → number_of r.verdict ≡ 0 → r.point ≡ lcc_point a.0 a.1.0
-  lcc_accepted h k = h.1 ∙ point_claims.lcc_accepted a.0 a.1.0 (sym h.0 ∙ k)
+  pub lcc_accepted : lcc-reads.Learnt κs a r e → number_of r ≡ 0 → r ≡ Ok (lcc_point a.0 a.1.0)
+  lcc_accepted h k = ok_at r _ k (rw (← point_claims.lcc_accepted a.0 a.1.0 (sym h.1 ∙ k)) h.0)
 
-  pub lcc_refused : lcc-reads.Learnt κs a r e → number_of r.verdict ≡ 6 → r.point ≡ blank_point
-  lcc_refused h k = h.1 ∙ point_claims.lcc_refused a.0 a.1.0 (sym h.0 ∙ k)
+  pub lcc_refused : lcc-reads.Learnt κs a r e → number_of r ≡ 6 → r ≡ Err StationOutside
+  unfolding rule_number
+  lcc_refused h k = err_at r StationOutside k
 
   -- V = Vd0·cos α - (3/π)·Xc·I
-  pub lcc_voltage_lem : lcc-reads.Learnt κs a r e → number_of r.verdict ≡ 0 → r.point.v_dc_kv ≡ (vd0 a.0 ⊗ cos_alpha_of a.0) ⊖ (((three ⊘ pi) ⊗ xc a.0) ⊗ a.1.0)
-  lcc_voltage_lem h k = rw h.1 (point_claims.lcc_voltage_lem a.0 a.1.0 (sym h.0 ∙ k))
+  pub lcc_voltage_lem : lcc-reads.Learnt κs a r e → number_of r ≡ 0 → IfOk r (λ point. point.v_dc_kv ≡ (vd0 a.0 ⊗ cos_alpha_of a.0) ⊖ (((three ⊘ pi) ⊗ xc a.0) ⊗ a.1.0))
+  lcc_voltage_lem h k = IfOk-weaker r _ _ (λ point is. rw is (point_claims.lcc_voltage_lem a.0 a.1.0 (sym h.1 ∙ k))) h.0
 
 module _ (κs : Lfts 0) (a : ArgsD vsc-contract.signature κs) (r : ResD vsc-contract.signature κs) (e : AtExit (ended_of 0 vsc-kinds.ps vsc-kinds.r) κs) where
   pub vsc_any : vsc-reads.Asked κs a
   vsc_any = tt
 
-  pub vsc_accepted : vsc-reads.Learnt κs a r e → number_of r.verdict ≡ 0 → r.point ≡ vsc_point a.0 a.1.0 a.1.1.0
-  vsc_accepted h k = h.1 ∙ point_claims.vsc_accepted a.0 a.1.0 a.1.1.0 (sym h.0 ∙ k)
+  pub vsc_accepted : vsc-reads.Learnt κs a r e → number_of r ≡ 0 → r ≡ Ok (vsc_point a.0 a.1.0 a.1.1.0)
+  vsc_accepted h k = ok_at r _ k (rw (← point_claims.vsc_accepted a.0 a.1.0 a.1.1.0 (sym h.1 ∙ k)) h.0)
 
-  pub vsc_refused : vsc-reads.Learnt κs a r e → number_of r.verdict ≡ 6 → r.point ≡ blank_point
-  vsc_refused h k = h.1 ∙ point_claims.vsc_refused a.0 a.1.0 a.1.1.0 (sym h.0 ∙ k)
+  pub vsc_refused : vsc-reads.Learnt κs a r e → number_of r ≡ 6 → r ≡ Err StationOutside
+  unfolding rule_number
+  vsc_refused h k = err_at r StationOutside k
 
-  pub vsc_voltage_lem : vsc-reads.Learnt κs a r e → number_of r.verdict ≡ 0 → le least r.point.v_dc_kv ≡ true
+  pub vsc_voltage_lem : vsc-reads.Learnt κs a r e → number_of r ≡ 0 → IfOk r (λ point. le least point.v_dc_kv ≡ true)
   vsc_voltage_lem h k = rw (vsc_accepted h k) (voltage_claims.vsc_voltage_lem a.0 a.1.0 a.1.1.0)

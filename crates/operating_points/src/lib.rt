@@ -3,4 +3,4 @@
 
 mod answer;
 
-pub use answer::{PointAnswer, lcc_operating_point, vsc_operating_point};
+pub use answer::{lcc_operating_point, vsc_operating_point};

@@ -2,7 +2,10 @@
 use Prim.Native.Nat.{ℕ, zero, suc, ◌≤◌, ◌<◌}
 use native.Mathlib.Omega.{arith}
 use mathlib.Core.Path.{◌≡◌, refl, ◌∙◌}
+use mathlib.Core.Bool.{false}
 use mathlib.Core.List.{List}
+use Rattle.grid.specs.declared.parts.ConverterTopology.{ConverterTopology}
+use Rattle.grid.specs.declared.parts.ConverterTopology.TheVariants.{Lcc, TwoLevelVsc, Mmc, Hybrid}
 use lib.ListN.{get_or}
 use lib.Ieee.{Float, nan}
 use Rattle.lists.specs.Tables.{padded}
@@ -14,7 +17,15 @@ use Rattle.grid.specs.declared.parts.ConverterStation.{ConverterStation}
 use Rattle.converter.specs.declared.point.ConverterOperatingPoint.{ConverterOperatingPoint}
 use Rattle.converter.specs.Point.{blank_point}
 use Rattle.flow_voltages.specs.Balance.{current, currents}
-use Rattle.power_flow.specs.Solution.{operating_point, point_of, operating_points}
+use Rattle.power_flow.specs.Solution.{is_lcc, operating_point, point_of, operating_points}
+
+-- a topology that is not an LCC's
+pub not_lcc : (t : ConverterTopology) → (t ≡ Lcc → ⊥) → false ≡ is_lcc t
+unfolding is_lcc
+not_lcc Lcc n = absurd (n refl)
+not_lcc TwoLevelVsc n = refl
+not_lcc (Mmc k) n = refl
+not_lcc Hybrid n = refl
 
 -- what the code computes of them, and their losses
 module _ (stations : List ConverterStation) (n : ℕ) (m v : List Float) {i : List Float} (l : n ≤ 32) (currents-are : i ≡ currents m n v) where

@@ -1,5 +1,6 @@
 -- What a caller learns from the contract in src/, as Rattle reads its clauses, is the definition of the result, and nothing is asked of the caller. Assumes nothing.
 use mathlib.Core.Path.{◌≡◌}
+use Rattle.std.specs.Prelude.{IfOk}
 use contract.Lifetimes.{Lfts}
 use borrow.Fn.World.{ArgsD, ResD}
 use borrow.Fn.Kinds.{ended_of}
@@ -16,10 +17,10 @@ module _ (κs : Lfts 0) (a : ArgsD solve-contract.signature κs) (r : ResD solve
   pub solve_any : solve-reads.Asked κs a
   solve_any = tt
 
-  pub solve_number : solve-reads.Learnt κs a r e → number_of r.verdict ≡ flow_refusal a.0
+  pub solve_number : solve-reads.Learnt κs a r e → number_of r ≡ flow_refusal a.0
   solve_number h = h.0
 
-  pub solve_answer : solve-reads.Learnt κs a r e → r.solution ≡ flow_answer a.0
+  pub solve_answer : solve-reads.Learnt κs a r e → IfOk r (λ solution. solution ≡ flow_answer a.0)
   solve_answer h = h.1
 
 module _ (κs : Lfts 0) where

@@ -1,5 +1,5 @@
 // The flow of a grid.
-ghost use Rattle.std.specs.Prelude.{◌≡◌};
+ghost use Rattle.std.specs.Prelude.{◌≡◌, IfOk};
 ghost use Rattle.rules.specs.Studies.{number_of, flow_refusal};
 ghost use Rattle.flow_voltages.specs.Balance.{currents_of};
 ghost use Rattle.power_flow.specs.Flow.{solution_at, blank_solution, flow_answer};
@@ -8,9 +8,9 @@ use crate::solution;
 use converter::{ConverterOperatingPoint, no_point};
 use flow_voltages::{Found, find_with_currents};
 use grid::{DcSwitchingSimulator, MOST_CABLES, MOST_STATIONS, present};
-use rules::{Verdict, check_flow, number};
+use rules::{Refusal, check_flow};
 
-// 000's solution. What stands past the counts is zeros.
+// 000's solution, which stands where it has not converged too. What stands past the counts is zeros.
 #[derive(Clone, Copy)]
 pub struct DcGridSolution {
     pub operating_points: [ConverterOperatingPoint; MOST_STATIONS],
@@ -20,30 +20,15 @@ pub struct DcGridSolution {
     pub iterations: u64,
 }
 
-// The solution is all zeros where the grid is refused.
-#[derive(Clone, Copy)]
-pub struct FlowAnswer {
-    pub verdict: Verdict,
-    pub solution: DcGridSolution,
-}
-
 // DcSwitchingSimulator::solve_dc_power_flow
-pub fn solve_dc_power_flow(g: DcSwitchingSimulator) -> FlowAnswer
-    ensures verdict { number_of result.verdict ≡ flow_refusal g }
-    ensures solution { result.solution ≡ flow_answer g }
+#[tactic(auto, unfolding(rules::specs::Studies::number_of, crate::specs::Flow::flow_answer))]
+pub fn solve_dc_power_flow(g: DcSwitchingSimulator) -> Result<DcGridSolution, Refusal>
+    ensures refusal { number_of result ≡ flow_refusal g }
+    ensures solution { IfOk result (λ solution. solution ≡ flow_answer g) }
 {
-    let verdict = check_flow(g);
-    if number(verdict) == 0 {
-        let found = find_with_currents(g);
-        return FlowAnswer {
-            verdict,
-            solution: solution_at(g, found),
-        };
-    }
-    FlowAnswer {
-        verdict,
-        solution: no_solution(),
-    }
+    check_flow(g)?;
+    let found = find_with_currents(g);
+    Ok(solution_at(g, found))
 }
 
 // Operating points and losses of any grid at voltages: the cables' losses, then the stations'.
@@ -72,7 +57,7 @@ fn solution_at(g: DcSwitchingSimulator, found: Found) -> DcGridSolution
     }
 }
 
-// All zeros: what stands beside a refusal.
+// All zeros: the solution before any is found.
 pub fn no_solution() -> DcGridSolution
     ensures { result ≡ blank_solution }
 {

@@ -4,4 +4,4 @@
 mod flow;
 mod solution;
 
-pub use flow::{DcGridSolution, FlowAnswer, no_solution, solve_dc_power_flow};
+pub use flow::{DcGridSolution, no_solution, solve_dc_power_flow};

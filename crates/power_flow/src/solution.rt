@@ -35,13 +35,11 @@ pub fn operating_points(
 {
     let mut points = [no_point(); MOST_STATIONS];
     let mut total = losses;
-    let mut i = 0;
-    while i < n {
+    for i in 0..n {
         let s = stations[i];
         let point = operating_point(s, v[i], currents[i]);
         points[i] = point;
         total = total + point.losses_mw;
-        i += 1;
     }
     Points {
         points,
@@ -86,12 +84,7 @@ fn converter_point(
 fn is_lcc(topology: ConverterTopology) -> bool
     ensures { result ≡ is_lcc topology }
 {
-    match topology {
-        ConverterTopology::Lcc => true,
-        ConverterTopology::TwoLevelVsc => false,
-        ConverterTopology::Mmc { n_submodules } => false,
-        ConverterTopology::Hybrid => false,
-    }
+    matches!(topology, ConverterTopology::Lcc)
 }
 
 // The losses of all cables in MW, into zeros.
@@ -105,11 +98,9 @@ pub fn cable_losses(
     requires { (n_cables ≤ 64) × (n ≤ 32) × (losses.old ≡ blank 64 nought) }
     ensures { losses.new ≡ cable_losses cables n_cables n v.now }
 {
-    let mut i = 0;
-    while i < n_cables {
+    for i in 0..n_cables {
         let c = cables[i];
         losses[i] = cable_loss(c, v, n);
-        i += 1;
     }
 }
 
@@ -131,10 +122,8 @@ pub fn sum_losses(losses: &[f64; MOST_CABLES], n_cables: usize) -> f64
     ensures { result ≡ sum_of (of losses.now) n_cables }
 {
     let mut sum = 0.0;
-    let mut i = 0;
-    while i < n_cables {
+    for i in 0..n_cables {
         sum = sum + losses[i];
-        i += 1;
     }
     sum
 }

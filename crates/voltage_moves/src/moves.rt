@@ -40,9 +40,7 @@ fn move_each(
     requires { n ≤ 32 }
     ensures { v.new ≡ moved_to m.now n rated.now d.now v.old (n - 1) }
 {
-    let mut i = 0;
-    while i + 1 < n {
-        i += 1;
+    for i in 1..n {
         let x = moved(v[i], d[i], divisor(m, v, i, n));
         let r = rated[i];
         v[i] = clamp(x, r * 0.5, r * 1.5);
@@ -72,10 +70,8 @@ fn add_products(
     ensures { result ≡ sum_without i (λ j. cell m.now i j ⊗ of v.now j) end }
 {
     let mut sum = start;
-    let mut j = first;
-    while j < end {
+    for j in first..end {
         sum = sum + m[i * MOST_STATIONS + j] * v[j];
-        j += 1;
     }
     sum
 }

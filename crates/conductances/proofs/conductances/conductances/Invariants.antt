@@ -2,11 +2,7 @@
 use Rattle.conductances.specs.Conductances.{matrix}
 use lib.ListN.{take}
 use mathlib.Core.Path.{◌≡◌}
-use Prim.Native.Nat.{◌-◌, ◌≤◌}
 use Rattle.conductances.proofs.conductances.conductances.Given as goal
 
 abbrev pub invariant-loop-i : goal.invariant-loop-i
-invariant-loop-i l = (l.i ≤ l.n_cables) × (l.m ≡ matrix l.n (take l.i l.cables))
-
-abbrev pub decreases-loop-i : goal.decreases-loop-i
-decreases-loop-i l = l.n_cables - l.i
+invariant-loop-i l = l.m ≡ matrix l.n (take l.i l.cables)

@@ -2,12 +2,8 @@
 use Rattle.conductances.specs.Conductances.{cell}
 use Rattle.float64.specs.Arithmetic.{◌⊕◌, ◌⊗◌, of}
 use mathlib.Core.Path.{◌≡◌}
-use Prim.Native.Nat.{◌-◌, ◌≤◌}
 use Rattle.lists.proofs.Fills.{upto}
 use Rattle.flow_voltages.proofs.balance.add_column.Given as goal
 
 abbrev pub invariant-loop-i : goal.invariant-loop-i
-invariant-loop-i l = (l.i ≤ l.n) × (l.sums ≡ upto l.i (λ k. of l.initial.sums k ⊕ cell l.m l.j k ⊗ l.x) l.initial.sums)
-
-abbrev pub decreases-loop-i : goal.decreases-loop-i
-decreases-loop-i l = l.n - l.i
+invariant-loop-i l = l.sums ≡ upto l.i (λ k. of l.initial.sums k ⊕ cell l.m l.j k ⊗ l.x) l.initial.sums

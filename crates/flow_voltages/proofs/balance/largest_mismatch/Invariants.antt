@@ -5,7 +5,4 @@ use Prim.Native.Nat.{◌-◌, ◌≤◌}
 use Rattle.flow_voltages.proofs.balance.largest_mismatch.Given as goal
 
 abbrev pub invariant-loop-i : goal.invariant-loop-i
-invariant-loop-i l = (l.i ≤ l.n - 1) × (l.most ≡ largest l.d l.i)
-
-abbrev pub decreases-loop-i : goal.decreases-loop-i
-decreases-loop-i l = l.n - l.i
+invariant-loop-i l = (l.i - 1 ≤ l.n - 1) × (l.most ≡ largest l.d (l.i - 1))

@@ -4,14 +4,11 @@ use Rattle.float64.specs.Constants.{nought}
 use lib.Dec.{eqb}
 use mathlib.Core.Bool.{cond}
 use mathlib.Core.Path.{◌≡◌}
-use Prim.Native.Nat.{◌+◌, ◌-◌, ◌≤◌}
+use Prim.Native.Nat.{◌-◌, ◌≤◌}
 use Rattle.lists.specs.Tables.{blank}
 use Rattle.lists.proofs.Fills.{upto}
 use Rattle.flow_voltages.proofs.balance.power_mismatches.Given as goal
 
 abbrev pub invariant-loop-i : goal.invariant-loop-i
 invariant-loop-i l =
-    (l.i ≤ l.n - 1) × (l.d ≡ upto (l.i + 1) (λ k. cond (eqb k 0) nought (of l.wanted k ⊖ of l.v k ⊗ of l.currents k)) (blank 32 nought))
-
-abbrev pub decreases-loop-i : goal.decreases-loop-i
-decreases-loop-i l = l.n - l.i
+    (l.i - 1 ≤ l.n - 1) × (l.d ≡ upto l.i (λ k. cond (eqb k 0) nought (of l.wanted k ⊖ of l.v k ⊗ of l.currents k)) (blank 32 nought))

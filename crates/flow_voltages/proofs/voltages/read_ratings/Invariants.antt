@@ -8,14 +8,10 @@ use lib.ListN.{get_or}
 use lib.Dec.{eqb}
 use mathlib.Core.Bool.{cond}
 use mathlib.Core.Path.{◌≡◌}
-use Prim.Native.Nat.{◌-◌, ◌≤◌}
 use Rattle.lists.specs.Tables.{blank}
 use Rattle.lists.proofs.Fills.{upto}
 use Rattle.flow_voltages.proofs.voltages.read_ratings.Given as goal
 
 abbrev pub invariant-loop-i : goal.invariant-loop-i
 invariant-loop-i l =
-    (l.i ≤ l.n) × (l.rated ≡ upto l.i (λ k. (get_or l.stations k blank_station).v_dc_rated_kv) (blank 32 nought)) × (l.wanted ≡ upto l.i (λ k. cond (eqb k 0) nought (neg (get_or l.stations k blank_station).p_rated_mw ⊗ loading)) (blank 32 nought))
-
-abbrev pub decreases-loop-i : goal.decreases-loop-i
-decreases-loop-i l = l.n - l.i
+    (l.rated ≡ upto l.i (λ k. (get_or l.stations k blank_station).v_dc_rated_kv) (blank 32 nought)) × (l.wanted ≡ upto l.i (λ k. cond (eqb k 0) nought (neg (get_or l.stations k blank_station).p_rated_mw ⊗ loading)) (blank 32 nought))

@@ -1,9 +1,9 @@
 -- `run_passes` meets its contract. Assumes nothing.
 use Rattle.flow_voltages.proofs.Passes.{passes_out, turn_hit, turn_on}
-use Rattle.flow_voltages.specs.Voltages.{passes, voltages}
+use Rattle.flow_voltages.specs.Voltages.{voltages}
 use native.Mathlib.Omega.{arith}
 use mathlib.Core.Path.{◌≡◌, refl, sym, ◌∙◌}
-use Prim.Native.Nat.{◌-◌, min}
+use Prim.Native.Nat.{min}
 use Rattle.lists.specs.Tables.{blank}
 use Rattle.flow_voltages.proofs.voltages.run_passes.Goals as goal
 

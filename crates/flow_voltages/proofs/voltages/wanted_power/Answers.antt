@@ -1,6 +1,5 @@
 -- `wanted_power` meets its contract. Assumes nothing.
 use borrow.Author.Tests.{eq-eqb, ne_eqb}
-use Prim.Native.Nat.{◌-◌}
 use Rattle.flow_voltages.proofs.voltages.wanted_power.Goals as goal
 
 pub returns-then-i-eq0 : goal.returns-then-i-eq0

@@ -5,7 +5,6 @@ use Rattle.float64.specs.Constants.{nought}
 use lib.ListN.{length}
 use native.Mathlib.Omega.{arith}
 use mathlib.Core.Path.{◌≡◌, ap, ◌∙◌}
-use Prim.Native.Nat.{◌-◌}
 use Rattle.lists.specs.Tables.{blank}
 use Rattle.lists.proofs.Scanning.{unmapped}
 use Rattle.lists.proofs.Counting.{at_end_lem}
@@ -14,14 +13,14 @@ use borrow.Author.Rules.{rules}
 use Rattle.power_flow.proofs.solution.cable_losses.Goals as goal
 
 pub loop-i-init : goal.loop-i-init
-loop-i-init c = (omega arith, rw c.requires.2 (upto_none _ _))
+loop-i-init c = rw c.requires.2 (upto_none _ _)
 
 pub loop-i-preserved : goal.loop-i-preserved
 loop-i-preserved c =
     let long : length c.args.cables ≡ 64 = search (rules, unmapped) in
-    (omega arith, upto_more _ _ c.loop-i.i c.loop-i.invariant.1 (c.cable_loss.ensures ∙ ap (cable_loss c.args.n c.args.v.now) (get_d_within c.args.cables c.loop-i.i _ blank_cable (omega (arith, long, c.requires.0)))))
+    (upto_more _ _ c.loop-i.i c.loop-i.invariant (c.cable_loss.ensures ∙ ap (cable_loss c.args.n c.args.v.now) (get_d_within c.args.cables c.loop-i.i _ blank_cable (omega (arith, long, c.requires.0)))))
 
 pub returns : goal.returns
 returns c =
-    at_end_lem (λ k. upto k (loss_of c.args.cables c.args.n c.args.v.now) (blank 64 nought)) c.loop-i.invariant.0 c.loop-i-test.false c.loop-i.invariant.1
+    at_end_lem (λ k. upto k (loss_of c.args.cables c.args.n c.args.v.now) (blank 64 nought)) c.loop-i.auto.i-end c.loop-i-test.false c.loop-i.invariant
     ∙ upto_padded c.args.n_cables 64 _ nought c.requires.0

@@ -5,14 +5,10 @@ use Rattle.grid.specs.Simulator.{blank_station}
 use Rattle.float64.specs.Arithmetic.{added_up, of}
 use lib.ListN.{get_or}
 use mathlib.Core.Path.{◌≡◌}
-use Prim.Native.Nat.{◌-◌, ◌≤◌}
 use Rattle.lists.specs.Tables.{blank}
 use Rattle.lists.proofs.Fills.{upto}
 use Rattle.power_flow.proofs.solution.operating_points.Given as goal
 
 abbrev pub invariant-loop-i : goal.invariant-loop-i
 invariant-loop-i l =
-    (l.i ≤ l.n) × (l.points ≡ upto l.i (λ k. operating_point (get_or l.stations k blank_station) (of l.v k) (of l.currents k)) (blank 32 blank_point)) × (l.total ≡ added_up l.losses (λ k. (operating_point (get_or l.stations k blank_station) (of l.v k) (of l.currents k)).losses_mw) l.i)
-
-abbrev pub decreases-loop-i : goal.decreases-loop-i
-decreases-loop-i l = l.n - l.i
+    (l.points ≡ upto l.i (λ k. operating_point (get_or l.stations k blank_station) (of l.v k) (of l.currents k)) (blank 32 blank_point)) × (l.total ≡ added_up l.losses (λ k. (operating_point (get_or l.stations k blank_station) (of l.v k) (of l.currents k)).losses_mw) l.i)

@@ -5,7 +5,4 @@ use Prim.Native.Nat.{◌-◌, ◌≤◌}
 use Rattle.voltage_moves.proofs.moves.move_each.Given as goal
 
 abbrev pub invariant-loop-i : goal.invariant-loop-i
-invariant-loop-i l = (l.i ≤ l.n - 1) × (l.v ≡ moved_to l.m l.n l.rated l.d l.initial.v l.i)
-
-abbrev pub decreases-loop-i : goal.decreases-loop-i
-decreases-loop-i l = l.n - l.i
+invariant-loop-i l = (l.i - 1 ≤ l.n - 1) × (l.v ≡ moved_to l.m l.n l.rated l.d l.initial.v (l.i - 1))
