@@ -11,7 +11,11 @@ use square_root::sqrt;
 // The least inductance, resistance and time constant to divide by. What is smaller is raised to it.
 const LEAST: f64 = 0.000000001;
 
-// The current in amperes, t seconds after inception.
+// The least capacitance to divide by. A frequency, or a distance between two roots, is divided by where it is above this.
+const TINY: f64 = 0.000000000001;
+
+// The current in amperes, t seconds after inception. No current at any time is one of its forms, and not the want of one, so that no Option
+// stands around them.
 #[derive(Clone, Copy)]
 pub enum Response {
     // gain * E(-alpha t) * S(omega_d t)
@@ -59,7 +63,7 @@ fn response_of(p: RlcParameters) -> Response
     ensures { result ≡ response_of p }
 {
     let l = max(p.l_total_mh * 0.001, LEAST);
-    let c = max(p.c_total_uf * 0.000001, 0.000000000001);
+    let c = max(p.c_total_uf * 0.000001, TINY);
     let v = p.v_dc_kv * 1000.0;
     let alpha = p.r_total_ohm / (2.0 * l);
     let omega0_sq = 1.0 / (l * c);
@@ -74,7 +78,7 @@ fn underdamped_response(v: f64, l: f64, alpha: f64, omega0_sq: f64) -> Response
     ensures { result ≡ specs.underdamped_response v l alpha omega0_sq }
 {
     let omega_d = sqrt(max(omega0_sq - alpha * alpha, 0.0));
-    if omega_d > 0.000000000001 {
+    if omega_d > TINY {
         return Response::Underdamped {
             gain: v / (omega_d * l),
             alpha,
@@ -91,7 +95,7 @@ fn overdamped_response(v: f64, l: f64, alpha: f64, omega0_sq: f64) -> Response
     let disc = sqrt(max(alpha * alpha - omega0_sq, 0.0));
     let s1 = -alpha + disc;
     let s2 = -alpha - disc;
-    if abs(s1 - s2) > 0.000000000001 {
+    if abs(s1 - s2) > TINY {
         return Response::Overdamped {
             gain: v / (l * (s1 - s2)),
             s1,
@@ -108,7 +112,7 @@ fn resistance_factor(p: RlcParameters) -> f64
     1.0 / (1.0 + p.r_fault_ohm / (p.r_total_ohm + LEAST))
 }
 
-// The factor of the fault's type on the current: pole to pole has the most.
+// The factor of the fault's type on the current, a number of 000's for each: pole to pole has the most.
 fn type_factor(kind: DcFaultType) -> f64
     ensures { result ≡ type_factor kind }
 {

@@ -54,15 +54,12 @@ fn parameters_at(
 
 // The submodule capacitances of n stations, added up in their order.
 fn capacitance_of(stations: [ConverterStation; MOST_STATIONS], n: usize) -> f64
-    requires { n ≤ 32 }
+    requires { n ≤ MOST_STATIONS }
     ensures { result ≡ sum_of (λ k. (get_or stations k blank_station).sm_capacitance_uf) n }
 {
     let mut sum = 0.0;
-    let mut i = 0;
-    while i < n {
-        let s = stations[i];
-        sum = sum + s.sm_capacitance_uf;
-        i += 1;
+    for i in 0..n {
+        sum = sum + stations[i].sm_capacitance_uf;
     }
     sum
 }

@@ -15,9 +15,9 @@ use Rattle.fault_currents.specs.Sites.{site_current}
 use Rattle.lanes.proofs.Lanes.{lanes_of_blank, lanes_of_lanes, lane_of}
 
 module _ (n : ℕ) where
-  -- a function of a block that was filled from zeros
-  pub lanes_through : (f : Float → Float) (g : ℕ → Float) {x y : List Float} → x ≡ over n g nan (blank n nought) → y ≡ tab n (λ j. f (of x j)) → y ≡ tab n (λ j. f (g j))
-  lanes_through f g x_is y_is = y_is ∙ tab_same n _ _ (λ j l. ap f (lane_of n g j l (lanes_of_blank n g nought x_is)))
+  -- a function of a block
+  pub lanes_through : (f : Float → Float) (g : ℕ → Float) {x y : List Float} → x ≡ tab n g → y ≡ tab n (λ j. f (of x j)) → y ≡ tab n (λ j. f (g j))
+  lanes_through f g x_is y_is = y_is ∙ tab_same n _ _ (λ j l. ap f (lane_of n g j l x_is))
 
   -- a block by what its lanes are, where it is read lane by lane
   pub lanes_read : (f : ℕ → Float → Float) (g : ℕ → Float) (d : List Float) {x : List Float} → x ≡ tab n g → over n (λ j. f j (of x j)) nan d ≡ over n (λ j. f j (g j)) nan d

@@ -9,97 +9,77 @@ ghost use Rattle.float64.specs.Arithmetic.{◌⊖◌, ◌⊗◌, of};
 ghost use Rattle.elementary.specs.Exponential.{E};
 ghost use Rattle.elementary.specs.Wave.{S};
 
-use lanes::{exp_lanes, sin_lanes};
+use lanes::{LANES, exp_lanes, sin_lanes};
 
 // gain * E(-alpha t) * S(omega_d t)
-pub fn underdamped_amperes(i: &mut [f64; 16], t: &[f64; 16], gain: f64, alpha: f64, omega_d: f64)
-    ensures { i.new ≡ over 16 (λ j. gain ⊗ E (neg alpha ⊗ of t.now j) ⊗ S (omega_d ⊗ of t.now j)) nan i.old }
+pub fn underdamped_amperes(
+    i: &mut [f64; LANES],
+    t: &[f64; LANES],
+    gain: f64,
+    alpha: f64,
+    omega_d: f64,
+)
+    ensures { i.new ≡ over LANES (λ j. gain ⊗ E (neg alpha ⊗ of t.now j) ⊗ S (omega_d ⊗ of t.now j)) nan i.old }
 {
-    let mut damping = [0.0; 16];
-    exp_along(&mut damping, -alpha, t);
-    let mut wave = [0.0; 16];
-    sin_along(&mut wave, omega_d, t);
+    let mut damping = [0.0; LANES];
+    exp_lanes(&mut damping, &scaled(-alpha, t));
+    let mut wave = [0.0; LANES];
+    sin_lanes(&mut wave, &scaled(omega_d, t));
     multiply(i, gain, &damping, &wave);
 }
 
 // gain * (E(s1 t) - E(s2 t))
-pub fn overdamped_amperes(i: &mut [f64; 16], t: &[f64; 16], gain: f64, s1: f64, s2: f64)
-    ensures { i.new ≡ over 16 (λ j. gain ⊗ (E (s1 ⊗ of t.now j) ⊖ E (s2 ⊗ of t.now j))) nan i.old }
+pub fn overdamped_amperes(i: &mut [f64; LANES], t: &[f64; LANES], gain: f64, s1: f64, s2: f64)
+    ensures { i.new ≡ over LANES (λ j. gain ⊗ (E (s1 ⊗ of t.now j) ⊖ E (s2 ⊗ of t.now j))) nan i.old }
 {
-    let mut first = [0.0; 16];
-    exp_along(&mut first, s1, t);
-    let mut second = [0.0; 16];
-    exp_along(&mut second, s2, t);
+    let mut first = [0.0; LANES];
+    exp_lanes(&mut first, &scaled(s1, t));
+    let mut second = [0.0; LANES];
+    exp_lanes(&mut second, &scaled(s2, t));
     subtract(i, gain, &first, &second);
 }
 
 // gain * t * E(-alpha t)
-pub fn critical_amperes(i: &mut [f64; 16], t: &[f64; 16], gain: f64, alpha: f64)
-    ensures { i.new ≡ over 16 (λ j. gain ⊗ of t.now j ⊗ E (neg alpha ⊗ of t.now j)) nan i.old }
+pub fn critical_amperes(i: &mut [f64; LANES], t: &[f64; LANES], gain: f64, alpha: f64)
+    ensures { i.new ≡ over LANES (λ j. gain ⊗ of t.now j ⊗ E (neg alpha ⊗ of t.now j)) nan i.old }
 {
-    let mut damping = [0.0; 16];
-    exp_along(&mut damping, -alpha, t);
+    let mut damping = [0.0; LANES];
+    exp_lanes(&mut damping, &scaled(-alpha, t));
     multiply(i, gain, t, &damping);
 }
 
 // 0 at every time
-pub fn no_amperes(i: &mut [f64; 16])
-    ensures { i.new ≡ over 16 (λ j. nought) nan i.old }
+pub fn no_amperes(i: &mut [f64; LANES])
+    ensures { i.new ≡ over LANES (λ j. nought) nan i.old }
 {
-    let mut j: usize = 0;
-    while j < 16 {
-        i[j] = 0.0;
-        j += 1;
-    }
-}
-
-// E(a t)
-fn exp_along(p: &mut [f64; 16], a: f64, t: &[f64; 16])
-    ensures { p.new ≡ tab 16 (λ j. E (a ⊗ of t.now j)) }
-{
-    let mut x = [0.0; 16];
-    scale(&mut x, a, t);
-    exp_lanes(p, &x);
-}
-
-// S(a t)
-fn sin_along(q: &mut [f64; 16], a: f64, t: &[f64; 16])
-    ensures { q.new ≡ tab 16 (λ j. S (a ⊗ of t.now j)) }
-{
-    let mut x = [0.0; 16];
-    scale(&mut x, a, t);
-    sin_lanes(q, &x);
+    *i = [0.0; LANES];
 }
 
 // a t
-fn scale(x: &mut [f64; 16], a: f64, t: &[f64; 16])
-    ensures { x.new ≡ over 16 (λ j. a ⊗ of t.now j) nan x.old }
+fn scaled(a: f64, t: &[f64; LANES]) -> [f64; LANES]
+    ensures { result ≡ tab LANES (λ j. a ⊗ of t.now j) }
 {
-    let mut j: usize = 0;
-    while j < 16 {
+    let mut x = [0.0; LANES];
+    for j in 0..LANES {
         x[j] = a * t[j];
-        j += 1;
     }
+    x
 }
 
 // gain * p * q, from the left
-fn multiply(i: &mut [f64; 16], gain: f64, p: &[f64; 16], q: &[f64; 16])
-    ensures { i.new ≡ over 16 (λ j. gain ⊗ of p.now j ⊗ of q.now j) nan i.old }
+fn multiply(i: &mut [f64; LANES], gain: f64, p: &[f64; LANES], q: &[f64; LANES])
+    ensures { i.new ≡ over LANES (λ j. gain ⊗ of p.now j ⊗ of q.now j) nan i.old }
 {
-    let mut j: usize = 0;
-    while j < 16 {
+    for j in 0..LANES {
         i[j] = gain * p[j] * q[j];
-        j += 1;
     }
 }
 
 // gain * (p - q)
-fn subtract(i: &mut [f64; 16], gain: f64, p: &[f64; 16], q: &[f64; 16])
-    ensures { i.new ≡ over 16 (λ j. gain ⊗ (of p.now j ⊖ of q.now j)) nan i.old }
+fn subtract(i: &mut [f64; LANES], gain: f64, p: &[f64; LANES], q: &[f64; LANES])
+    ensures { i.new ≡ over LANES (λ j. gain ⊗ (of p.now j ⊖ of q.now j)) nan i.old }
 {
-    let mut j: usize = 0;
-    while j < 16 {
+    for j in 0..LANES {
         i[j] = gain * (p[j] - q[j]);
-        j += 1;
     }
 }

@@ -12,33 +12,32 @@ ghost use Rattle.fault_currents.specs.Sites.{site_current};
 use crate::currents::{critical_amperes, no_amperes, overdamped_amperes, underdamped_amperes};
 use fault_circuit::{FaultCircuit, Response};
 use float64::{abs, max};
+use lanes::LANES;
 
 // In kA, whatever out held. A time before the inception counts as the inception.
-pub fn site_currents_ka(out: &mut [f64; 16], circuit: FaultCircuit, t_ms: &[f64; 16])
-    ensures { out.new ≡ tab 16 (λ j. site_current circuit (of t_ms.now j)) }
+pub fn site_currents_ka(out: &mut [f64; LANES], circuit: FaultCircuit, t_ms: &[f64; LANES])
+    ensures { out.new ≡ tab LANES (λ j. site_current circuit (of t_ms.now j)) }
 {
     let response = circuit.response;
-    let mut t = [0.0; 16];
+    let mut t = [0.0; LANES];
     seconds_since(&mut t, circuit.inception_time_ms, t_ms);
-    *out = [0.0; 16];
+    *out = [0.0; LANES];
     amperes(out, response, &t);
     to_kiloamperes(out, circuit.resistance_factor);
 }
 
 // Seconds from a moment to each time, both in milliseconds; 0 before that moment.
-fn seconds_since(t: &mut [f64; 16], moment_ms: f64, t_ms: &[f64; 16])
-    ensures { t.new ≡ over 16 (λ j. seconds_since moment_ms (of t_ms.now j)) nan t.old }
+fn seconds_since(t: &mut [f64; LANES], moment_ms: f64, t_ms: &[f64; LANES])
+    ensures { t.new ≡ over LANES (λ j. seconds_since moment_ms (of t_ms.now j)) nan t.old }
 {
-    let mut j: usize = 0;
-    while j < 16 {
+    for j in 0..LANES {
         t[j] = max(t_ms[j] - moment_ms, 0.0) * 0.001;
-        j += 1;
     }
 }
 
 // The response is told apart once for all lanes.
-fn amperes(i: &mut [f64; 16], response: Response, t: &[f64; 16])
-    ensures { i.new ≡ over 16 (λ j. specs.amperes response (of t.now j)) nan i.old }
+fn amperes(i: &mut [f64; LANES], response: Response, t: &[f64; LANES])
+    ensures { i.new ≡ over LANES (λ j. specs.amperes response (of t.now j)) nan i.old }
 {
     match response {
         Response::Underdamped {
@@ -53,12 +52,10 @@ fn amperes(i: &mut [f64; 16], response: Response, t: &[f64; 16])
 }
 
 // The size of the current, in kA, times the factor.
-fn to_kiloamperes(i: &mut [f64; 16], factor: f64)
-    ensures { i.new ≡ over 16 (λ j. abs_of (of i.old j) ⊘ kilo ⊗ factor) nan i.old }
+fn to_kiloamperes(i: &mut [f64; LANES], factor: f64)
+    ensures { i.new ≡ over LANES (λ j. abs_of (of i.old j) ⊘ kilo ⊗ factor) nan i.old }
 {
-    let mut j: usize = 0;
-    while j < 16 {
+    for j in 0..LANES {
         i[j] = abs(i[j]) / 1000.0 * factor;
-        j += 1;
     }
 }

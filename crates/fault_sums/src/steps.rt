@@ -13,6 +13,7 @@ ghost use Rattle.fault_sums.specs.Blocks.{added, block_times, lanes_from};
 use fault_circuit::FaultCircuit;
 use fault_currents::site_currents_ka;
 use float64::max;
+use lanes::LANES;
 use run_start::step_time_ms;
 
 // Of the steps folded so far.
@@ -41,6 +42,7 @@ pub fn fault_sums(circuit: FaultCircuit, dt_ms: f64, first: u64, end: u64, start
     let r_ohm = circuit.r_fault_ohm + circuit.r_total_ohm;
     let mut s = start;
     let mut step = first;
+    // A `while`, here and in `site_sums`: a range over the blocks would need their number, and the last block's length besides.
     while step < end {
         let n = block_length(step, end);
         let i = block_currents(circuit, dt_ms, step, n);
@@ -75,46 +77,44 @@ pub fn site_sums(circuit: FaultCircuit, dt_ms: f64, first: u64, end: u64) -> Sit
     s
 }
 
-// How many steps of a block there are: 16, or as many as are left.
+// How many steps of a block there are: as many as lanes, or as many as are left.
 fn block_length(step: u64, end: u64) -> usize
     requires { step ≤ end }
-    ensures { result ≡ min (end - step) 16 }
+    ensures { result ≡ min (end - step) LANES }
 {
     let left = end - step;
-    if left < 16 {
+    if left < LANES as u64 {
         return left as usize;
     }
-    16
+    LANES
 }
 
 // The currents of a block before the factor of the fault's type. Lanes from n on have the current at time 0, and are not folded.
-fn block_currents(circuit: FaultCircuit, dt_ms: f64, first: u64, n: usize) -> [f64; 16]
-    requires { (n ≤ 16) × (first + n < 2 ^ 64) }
-    ensures { result ≡ tab 16 (λ j. site_current circuit (of (block_times dt_ms first n) j)) }
+fn block_currents(circuit: FaultCircuit, dt_ms: f64, first: u64, n: usize) -> [f64; LANES]
+    requires { (n ≤ LANES) × (first + n < 2 ^ 64) }
+    ensures { result ≡ tab LANES (λ j. site_current circuit (of (block_times dt_ms first n) j)) }
 {
     let t_ms = block_times(dt_ms, first, n);
-    let mut i = [0.0; 16];
+    let mut i = [0.0; LANES];
     site_currents_ka(&mut i, circuit, &t_ms);
     i
 }
 
 // The times of n steps, and zeros past them: no step is numbered past the last.
-fn block_times(dt_ms: f64, first: u64, n: usize) -> [f64; 16]
-    requires { (n ≤ 16) × (first + n < 2 ^ 64) }
+fn block_times(dt_ms: f64, first: u64, n: usize) -> [f64; LANES]
+    requires { (n ≤ LANES) × (first + n < 2 ^ 64) }
     ensures { result ≡ block_times dt_ms first n }
 {
-    let mut t_ms = [0.0; 16];
-    let mut j: usize = 0;
-    while j < n {
+    let mut t_ms = [0.0; LANES];
+    for j in 0..n {
         t_ms[j] = step_time_ms(dt_ms, first + j as u64);
-        j += 1;
     }
     t_ms
 }
 
 // Folds the first n lanes of a block, for each of the three types.
-fn add_site_block(s: SiteSums, i: &[f64; 16], r_ohm: f64, dt_ms: f64, n: usize) -> SiteSums
-    requires { n ≤ 16 }
+fn add_site_block(s: SiteSums, i: &[f64; LANES], r_ohm: f64, dt_ms: f64, n: usize) -> SiteSums
+    requires { n ≤ LANES }
     ensures { (result.to_ground ≡ sums_from (λ j. of i.now j ⊗ ground_part) (dissipated dt_ms r_ohm) 0 s.to_ground n) × (result.pole ≡ sums_from (λ j. of i.now j ⊗ one) (dissipated dt_ms r_ohm) 0 s.pole n) × (result.internal ≡ sums_from (λ j. of i.now j ⊗ internal_part) (dissipated dt_ms r_ohm) 0 s.internal n) }
 {
     let ground = s.to_ground;
@@ -128,8 +128,8 @@ fn add_site_block(s: SiteSums, i: &[f64; 16], r_ohm: f64, dt_ms: f64, n: usize) 
 }
 
 // Folds the first n lanes of a block, for a type of this factor.
-fn add_block(start: Sums, i: &[f64; 16], factor: f64, r_ohm: f64, dt_ms: f64, n: usize) -> Sums
-    requires { n ≤ 16 }
+fn add_block(start: Sums, i: &[f64; LANES], factor: f64, r_ohm: f64, dt_ms: f64, n: usize) -> Sums
+    requires { n ≤ LANES }
     ensures { result ≡ sums_from (λ j. of i.now j ⊗ factor) (dissipated dt_ms r_ohm) 0 start n }
 {
     let typed = typed_currents(i, factor);
@@ -137,43 +137,37 @@ fn add_block(start: Sums, i: &[f64; 16], factor: f64, r_ohm: f64, dt_ms: f64, n:
     add_lanes(start, &typed, &heat, n)
 }
 
-fn typed_currents(i: &[f64; 16], factor: f64) -> [f64; 16]
-    ensures { result ≡ tab 16 (λ j. of i.now j ⊗ factor) }
+fn typed_currents(i: &[f64; LANES], factor: f64) -> [f64; LANES]
+    ensures { result ≡ tab LANES (λ j. of i.now j ⊗ factor) }
 {
-    let mut typed = [0.0; 16];
-    let mut j: usize = 0;
-    while j < 16 {
+    let mut typed = [0.0; LANES];
+    for j in 0..LANES {
         typed[j] = i[j] * factor;
-        j += 1;
     }
     typed
 }
 
 // I²R·dt of a step, in MJ, lane by lane.
-fn heats(i: &[f64; 16], factor: f64, r_ohm: f64, dt_ms: f64) -> [f64; 16]
-    ensures { result ≡ tab 16 (λ j. dissipated dt_ms r_ohm (of i.now j ⊗ factor)) }
+fn heats(i: &[f64; LANES], factor: f64, r_ohm: f64, dt_ms: f64) -> [f64; LANES]
+    ensures { result ≡ tab LANES (λ j. dissipated dt_ms r_ohm (of i.now j ⊗ factor)) }
 {
     let dt_s = dt_ms * 0.001;
-    let mut heat = [0.0; 16];
-    let mut j: usize = 0;
-    while j < 16 {
+    let mut heat = [0.0; LANES];
+    for j in 0..LANES {
         let i_a = i[j] * factor * 1000.0;
         heat[j] = i_a * i_a * r_ohm * dt_s / 1000000.0;
-        j += 1;
     }
     heat
 }
 
 // Folds the first n lanes in order, on which sums of doubles depend.
-fn add_lanes(start: Sums, i: &[f64; 16], heat: &[f64; 16], n: usize) -> Sums
-    requires { n ≤ 16 }
+fn add_lanes(start: Sums, i: &[f64; LANES], heat: &[f64; LANES], n: usize) -> Sums
+    requires { n ≤ LANES }
     ensures { result ≡ lanes_from (of i.now) (of heat.now) 0 start n }
 {
     let mut s = start;
-    let mut lane: usize = 0;
-    while lane < n {
+    for lane in 0..n {
         s = add_step(s, i[lane], heat[lane]);
-        lane += 1;
     }
     s
 }

@@ -1,10 +1,10 @@
 // The steps in which a fault lasts: from the first in which it is active to the one in which the breakers clear it.
-ghost use Rattle.std.specs.Prelude.{◌≡◌, ◌-◌};
+ghost use Rattle.std.specs.Prelude.{◌≡◌, ◌-◌, ℕ, Bool};
 ghost use Rattle.fault_window.specs.Window.{until, active_in, clears_in, window_of};
 
 use run_start::step_time_ms;
 
-// Steps are numbered from 0.
+// Steps are numbered from 0. The window is there whether its last step clears the fault or not.
 #[derive(Clone, Copy)]
 pub struct Window {
     // The first step in which the fault lasts.
@@ -27,8 +27,10 @@ pub fn fault_window(
 ) -> Window
     ensures { result ≡ window_of dt_ms inception_ms clear_ms active first end }
 {
-    let from = first_active(dt_ms, inception_ms, active, first, end);
-    let last = first_clearing(dt_ms, inception_ms, clear_ms, from, end);
+    let active_at = |step: u64| is_active(dt_ms, inception_ms, active, step);
+    let from = first_step(first, end, active_at);
+    let cleared_at = |step: u64| is_cleared(dt_ms, inception_ms, clear_ms, step);
+    let last = first_step(from, end, cleared_at);
     if last < end {
         let to = last + 1;
         return Window {
@@ -44,38 +46,24 @@ pub fn fault_window(
     }
 }
 
-// The first step in which the fault is active, and `end` where there is none. Of a fault that is active already, `first`.
-fn first_active(dt_ms: f64, inception_ms: f64, active: bool, first: u64, end: u64) -> u64
-    ensures { result ≡ until (active_in dt_ms inception_ms active) first (end - first) }
+// The first step from `first` on for which the test holds: `end` where there is none below it, and `first` where that is not below `end`.
+fn first_step<F: Fn(u64) -> bool>(first: u64, end: u64, test: F) -> u64
+    requires { F.IsAlwaysCallable test }
+    ensures { (f : ℕ → Bool) → ((k : ℕ) (b : Bool) → F.post test k b → b ≡ f k) → result ≡ until f first (end - first) }
 {
-    let mut step = first;
-    while step < end {
-        if is_active(dt_ms, inception_ms, active, step) {
+    for step in first..end {
+        if test(step) {
             return step;
         }
-        step += 1;
     }
-    step
+    if end < first { first } else { end }
 }
 
+// Whether the fault is active in a step: from its inception on, or already.
 fn is_active(dt_ms: f64, inception_ms: f64, active: bool, step: u64) -> bool
     ensures { result ≡ active_in dt_ms inception_ms active step }
 {
     active | (inception_ms <= step_time_ms(dt_ms, step))
-}
-
-// The first step that clears the fault, and `end` where none does.
-fn first_clearing(dt_ms: f64, inception_ms: f64, clear_ms: f64, first: u64, end: u64) -> u64
-    ensures { result ≡ until (clears_in dt_ms inception_ms clear_ms) first (end - first) }
-{
-    let mut step = first;
-    while step < end {
-        if is_cleared(dt_ms, inception_ms, clear_ms, step) {
-            return step;
-        }
-        step += 1;
-    }
-    step
 }
 
 // Whether the time from inception to a step has reached that of the breakers.

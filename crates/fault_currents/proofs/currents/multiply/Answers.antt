@@ -1,18 +1,16 @@
 -- `multiply` meets its contract. Assumes nothing.
 use mathlib.Core.Path.{refl}
-use Prim.Native.Nat.{◌-◌}
-use native.Mathlib.Omega.{arith}
 use Rattle.lists.proofs.Fills.{upto_none, upto_more}
 use Rattle.float64.specs.Arithmetic.{of, ◌⊗◌}
 use Rattle.lanes.proofs.Lanes.{lanes_left}
 use Rattle.fault_currents.proofs.currents.multiply.Goals as goal
 
 pub loop-j-init : goal.loop-j-init
-loop-j-init c = (omega arith, upto_none _ _)
+loop-j-init c = upto_none _ _
 
 pub loop-j-preserved : goal.loop-j-preserved
-loop-j-preserved c = (omega arith, upto_more _ _ _ c.loop-j.invariant.1 refl)
+loop-j-preserved c = upto_more _ _ _ c.loop-j.invariant refl
 
 pub returns : goal.returns
 returns c =
-    lanes_left 16 (λ n. c.args.gain ⊗ of c.args.p.now n ⊗ of c.args.q.now n) c.args.i.now c.loop-j.invariant.0 c.loop-j-test.false c.loop-j.invariant.1
+    lanes_left 16 (λ n. c.args.gain ⊗ of c.args.p.now n ⊗ of c.args.q.now n) c.args.i.now c.loop-j.auto.j-end c.loop-j-test.false c.loop-j.invariant

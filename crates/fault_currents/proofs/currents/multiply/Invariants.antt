@@ -1,12 +1,8 @@
 -- `multiply` meets its contract. Assumes nothing.
 use mathlib.Core.Path.{◌≡◌}
-use Prim.Native.Nat.{◌≤◌, ◌-◌}
 use Rattle.lists.proofs.Fills.{upto}
 use Rattle.float64.specs.Arithmetic.{of, ◌⊗◌}
 use Rattle.fault_currents.proofs.currents.multiply.Given as goal
 
 abbrev pub invariant-loop-j : goal.invariant-loop-j
-invariant-loop-j l = (l.j ≤ 16) × (l.i ≡ upto l.j (λ n. l.gain ⊗ of l.p n ⊗ of l.q n) l.initial.i)
-
-abbrev pub decreases-loop-j : goal.decreases-loop-j
-decreases-loop-j l = 16 - l.j
+invariant-loop-j l = l.i ≡ upto l.j (λ n. l.gain ⊗ of l.p n ⊗ of l.q n) l.initial.i

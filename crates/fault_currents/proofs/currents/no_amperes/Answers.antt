@@ -1,18 +1,13 @@
 -- `no_amperes` meets its contract. Assumes nothing.
-use mathlib.Core.Path.{refl}
-use Prim.Native.Nat.{◌-◌}
-use native.Mathlib.Omega.{arith}
-use Rattle.lists.proofs.Fills.{upto_none, upto_more}
+use mathlib.Core.Path.{◌≡◌, sym}
+use lib.ListN.{length}
+use borrow.Author.Rules.{rules}
+use Rattle.lists.specs.Tables.{tab}
+use Rattle.lists.proofs.Scanning.{unmapped}
 use Rattle.float64.specs.Constants.{nought}
-use Rattle.lanes.proofs.Lanes.{lanes_left}
+use Rattle.lanes.proofs.Lanes.{replaced}
 use Rattle.fault_currents.proofs.currents.no_amperes.Goals as goal
 
-pub loop-j-init : goal.loop-j-init
-loop-j-init c = (omega arith, upto_none _ _)
-
-pub loop-j-preserved : goal.loop-j-preserved
-loop-j-preserved c = (omega arith, upto_more _ _ _ c.loop-j.invariant.1 refl)
-
 pub returns : goal.returns
-returns c =
-    lanes_left 16 (λ n. nought) c.args.i.now c.loop-j.invariant.0 c.loop-j-test.false c.loop-j.invariant.1
+unfolding tab
+returns c = let long : length c.args.i.now ≡ 16 = search (rules, unmapped) in sym (replaced 16 (λ j. nought) c.args.i.now long)

@@ -1,6 +1,5 @@
 -- `site_currents_ka` meets its contract. Assumes nothing.
 use Rattle.lists.specs.Tables.{blank}
-use Rattle.fault_current.specs.Current.{amperes}
 use Rattle.fault_currents.proofs.Composed.{site_composed}
 use Rattle.fault_currents.proofs.sites.site_currents_ka.Goals as goal
 

@@ -1,6 +1,5 @@
 -- `to_kiloamperes` meets its contract. Assumes nothing.
 use mathlib.Core.Path.{◌≡◌}
-use Prim.Native.Nat.{◌≤◌, ◌-◌}
 use Rattle.lists.proofs.Fills.{upto}
 use Rattle.float64.specs.Arithmetic.{of, ◌⊗◌, ◌⊘◌}
 use Rattle.float64.specs.Constants.{kilo}
@@ -8,7 +7,4 @@ use Rattle.float64.specs.Choice.{abs_of}
 use Rattle.fault_currents.proofs.sites.to_kiloamperes.Given as goal
 
 abbrev pub invariant-loop-j : goal.invariant-loop-j
-invariant-loop-j l = (l.j ≤ 16) × (l.i ≡ upto l.j (λ n. abs_of (of l.initial.i n) ⊘ kilo ⊗ l.factor) l.initial.i)
-
-abbrev pub decreases-loop-j : goal.decreases-loop-j
-decreases-loop-j l = 16 - l.j
+invariant-loop-j l = l.i ≡ upto l.j (λ n. abs_of (of l.initial.i n) ⊘ kilo ⊗ l.factor) l.initial.i

@@ -1,13 +1,8 @@
 -- `add_lanes` meets its contract: folding what is left completes the fold of all. Assumes nothing.
 use Rattle.fault_sums.proofs.Blocks.{lanes_more, lanes_done}
 use Rattle.float64.specs.Arithmetic.{of}
-use native.Mathlib.Omega.{arith}
-use Prim.Native.Nat.{◌-◌}
-use mathlib.Core.Path.{◌≡◌, sym, ◌∙◌}
+use mathlib.Core.Path.{sym, ◌∙◌}
 use Rattle.fault_sums.proofs.steps.add_lanes.Goals as goal
-
-pub loop-lane-init : goal.loop-lane-init
-loop-lane-init c = let e : c.args.n - 0 ≡ c.args.n = omega arith in rw e
 
 pub loop-lane-preserved : goal.loop-lane-preserved
 loop-lane-preserved c =

@@ -7,6 +7,3 @@ use Rattle.fault_sums.proofs.steps.add_lanes.Given as goal
 
 abbrev pub invariant-loop-lane : goal.invariant-loop-lane
 invariant-loop-lane l = lanes_from (of l.i) (of l.heat) l.lane l.s (l.n - l.lane) ≡ lanes_from (of l.i) (of l.heat) 0 l.initial.s l.n
-
-abbrev pub decreases-loop-lane : goal.decreases-loop-lane
-decreases-loop-lane l = l.n - l.lane

@@ -4,19 +4,18 @@ use Rattle.float64.specs.Constants.{nought}
 use Rattle.lists.specs.Tables.{blank}
 use Rattle.lists.proofs.Counting.{at_end_lem}
 use Rattle.lists.proofs.Fills.{upto, upto_none, upto_more, upto_padded}
-use native.Mathlib.Omega.{arith}
-use Prim.Native.Nat.{◌+◌, ◌-◌}
+use Prim.Native.Nat.{◌+◌}
 use mathlib.Core.Path.{◌∙◌}
 use Rattle.fault_sums.proofs.steps.block_times.Goals as goal
 
 pub loop-j-init : goal.loop-j-init
 unfolding blank
-loop-j-init c = (omega arith, upto_none _ _)
+loop-j-init c = upto_none _ _
 
 pub loop-j-preserved : goal.loop-j-preserved
-loop-j-preserved c = (omega arith, upto_more _ _ _ c.loop-j.invariant.1 c.step_time_ms.ensures)
+loop-j-preserved c = upto_more _ _ _ c.loop-j.invariant c.step_time_ms.ensures
 
 pub returns : goal.returns
 returns c =
-    at_end_lem (λ k. upto k (λ j. time_at c.args.dt_ms (c.args.first + j)) (blank 16 nought)) c.loop-j.invariant.0 c.loop-j-test.false c.loop-j.invariant.1
+    at_end_lem (λ k. upto k (λ j. time_at c.args.dt_ms (c.args.first + j)) (blank 16 nought)) c.loop-j.auto.j-end c.loop-j-test.false c.loop-j.invariant
     ∙ upto_padded c.args.n 16 _ nought c.requires.0

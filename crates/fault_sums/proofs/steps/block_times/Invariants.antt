@@ -3,12 +3,9 @@ use Rattle.run_start.specs.Start.{time_at}
 use Rattle.float64.specs.Constants.{nought}
 use Rattle.lists.specs.Tables.{blank}
 use Rattle.lists.proofs.Fills.{upto}
-use Prim.Native.Nat.{◌+◌, ◌-◌, ◌≤◌}
+use Prim.Native.Nat.{◌+◌}
 use mathlib.Core.Path.{◌≡◌}
 use Rattle.fault_sums.proofs.steps.block_times.Given as goal
 
 abbrev pub invariant-loop-j : goal.invariant-loop-j
-invariant-loop-j l = (l.j ≤ l.n) × (l.t_ms ≡ upto l.j (λ k. time_at l.dt_ms (l.first + k)) (blank 16 nought))
-
-abbrev pub decreases-loop-j : goal.decreases-loop-j
-decreases-loop-j l = l.n - l.j
+invariant-loop-j l = l.t_ms ≡ upto l.j (λ k. time_at l.dt_ms (l.first + k)) (blank 16 nought)

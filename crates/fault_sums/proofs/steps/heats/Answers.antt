@@ -5,20 +5,19 @@ use Rattle.lists.specs.Tables.{blank}
 use Rattle.float64.specs.Constants.{nought}
 use Rattle.float64.specs.Arithmetic.{◌⊗◌, of}
 use Rattle.fault_plan.specs.Fault.{dissipated}
-use native.Mathlib.Omega.{arith}
 use lib.Ieee.{Float}
-use Prim.Native.Nat.{ℕ, ◌-◌}
+use Prim.Native.Nat.{ℕ}
 use mathlib.Core.Path.{refl}
 use Rattle.fault_sums.proofs.steps.heats.Goals as goal
 
 pub loop-j-init : goal.loop-j-init
 unfolding blank
-loop-j-init c = (omega arith, upto_none _ _)
+loop-j-init c = upto_none _ _
 
 pub loop-j-preserved : goal.loop-j-preserved
-loop-j-preserved c = (omega arith, upto_more _ _ _ c.loop-j.invariant.1 refl)
+loop-j-preserved c = upto_more _ _ _ c.loop-j.invariant refl
 
 pub returns : goal.returns
 returns c =
     let f : ℕ → Float = λ k. dissipated c.args.dt_ms c.args.r_ohm (of c.args.i.now k ⊗ c.args.factor) in
-    lanes_of_blank 16 f nought (lanes_left 16 f (blank 16 nought) c.loop-j.invariant.0 c.loop-j-test.false c.loop-j.invariant.1)
+    lanes_of_blank 16 f nought (lanes_left 16 f (blank 16 nought) c.loop-j.auto.j-end c.loop-j-test.false c.loop-j.invariant)

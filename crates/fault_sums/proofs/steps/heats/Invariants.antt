@@ -4,12 +4,8 @@ use Rattle.lists.specs.Tables.{blank}
 use Rattle.float64.specs.Constants.{nought}
 use Rattle.float64.specs.Arithmetic.{◌⊗◌, of}
 use Rattle.fault_plan.specs.Fault.{dissipated}
-use Prim.Native.Nat.{◌-◌, ◌≤◌}
 use mathlib.Core.Path.{◌≡◌}
 use Rattle.fault_sums.proofs.steps.heats.Given as goal
 
 abbrev pub invariant-loop-j : goal.invariant-loop-j
-invariant-loop-j l = (l.j ≤ 16) × (l.heat ≡ upto l.j (λ k. dissipated l.dt_ms l.r_ohm (of l.i k ⊗ l.factor)) (blank 16 nought))
-
-abbrev pub decreases-loop-j : goal.decreases-loop-j
-decreases-loop-j l = 16 - l.j
+invariant-loop-j l = l.heat ≡ upto l.j (λ k. dissipated l.dt_ms l.r_ohm (of l.i k ⊗ l.factor)) (blank 16 nought)

@@ -2,28 +2,8 @@
 use Rattle.fault_circuit.specs.Constants.{ground_part, internal_part}
 use Rattle.float64.specs.Constants.{one}
 use Rattle.fault_sums.proofs.Blocks.{blocks_more, blocks_done}
-use Prim.Native.Nat.{◌-◌}
-use native.Mathlib.Omega.{arith}
-use mathlib.Core.Path.{refl, sym, ◌∙◌}
+use mathlib.Core.Path.{sym, ◌∙◌}
 use Rattle.fault_sums.proofs.steps.site_sums.Goals as goal
-
-pub loop-at-init : goal.loop-at-init
-loop-at-init c = (refl, refl, refl)
-
-pub block_length-n-requires : goal.block_length-n-requires
-block_length-n-requires c = omega (arith, c.loop-at-test.true)
-
-pub block_currents-i-requires : goal.block_currents-i-requires
-block_currents-i-requires c = (omega (arith, c.block_length-n.ensures), omega (arith, c.block_length-n.ensures, c.loop-at-test.true))
-
-pub add_site_block-s-requires : goal.add_site_block-s-requires
-add_site_block-s-requires c = omega (arith, c.block_length-n.ensures)
-
-pub overflow_add-at : goal.overflow_add-at
-overflow_add-at c = omega (arith, c.block_length-n.ensures, c.loop-at-test.true)
-
-pub loop-at-smaller : goal.loop-at-smaller
-loop-at-smaller c = omega (arith, c.block_length-n.ensures, c.loop-at-test.true)
 
 pub loop-at-preserved : goal.loop-at-preserved
 loop-at-preserved c =

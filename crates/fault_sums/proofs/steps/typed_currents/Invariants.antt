@@ -3,12 +3,8 @@ use Rattle.lists.proofs.Fills.{upto}
 use Rattle.lists.specs.Tables.{blank}
 use Rattle.float64.specs.Constants.{nought}
 use Rattle.float64.specs.Arithmetic.{◌⊗◌, of}
-use Prim.Native.Nat.{◌-◌, ◌≤◌}
 use mathlib.Core.Path.{◌≡◌}
 use Rattle.fault_sums.proofs.steps.typed_currents.Given as goal
 
 abbrev pub invariant-loop-j : goal.invariant-loop-j
-invariant-loop-j l = (l.j ≤ 16) × (l.typed ≡ upto l.j (λ k. of l.i k ⊗ l.factor) (blank 16 nought))
-
-abbrev pub decreases-loop-j : goal.decreases-loop-j
-decreases-loop-j l = 16 - l.j
+invariant-loop-j l = l.typed ≡ upto l.j (λ k. of l.i k ⊗ l.factor) (blank 16 nought)

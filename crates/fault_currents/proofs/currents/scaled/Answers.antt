@@ -1,0 +1,22 @@
+-- `scaled` meets its contract: lane by lane. Assumes nothing.
+use mathlib.Core.Path.{refl}
+use lib.Ieee.{Float}
+use Prim.Native.Nat.{ℕ}
+use Rattle.lists.specs.Tables.{blank}
+use Rattle.lists.proofs.Fills.{upto_none, upto_more}
+use Rattle.float64.specs.Constants.{nought}
+use Rattle.float64.specs.Arithmetic.{of, ◌⊗◌}
+use Rattle.lanes.proofs.Lanes.{lanes_left, lanes_of_blank}
+use Rattle.fault_currents.proofs.currents.scaled.Goals as goal
+
+pub loop-j-init : goal.loop-j-init
+unfolding blank
+loop-j-init c = upto_none _ _
+
+pub loop-j-preserved : goal.loop-j-preserved
+loop-j-preserved c = upto_more _ _ _ c.loop-j.invariant refl
+
+pub returns : goal.returns
+returns c =
+    let f : ℕ → Float = λ k. c.args.a ⊗ of c.args.t.now k in
+    lanes_of_blank 16 f nought (lanes_left 16 f (blank 16 nought) c.loop-j.auto.j-end c.loop-j-test.false c.loop-j.invariant)
