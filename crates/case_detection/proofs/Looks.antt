@@ -1,5 +1,7 @@
 -- What detection reads of a case, and what a step makes of that: the rest of the case has no part in it. Assumes nothing.
-use Prim.Native.Nat.{ℕ, zero, suc}
+use Prim.Native.Nat.{ℕ, zero, suc, ◌+◌, ◌-◌, ◌<◌}
+use native.Mathlib.Numerals.{add-one}
+use native.Mathlib.Omega.{arith}
 use mathlib.Core.Path.{◌≡◌, refl, ap, ◌∙◌}
 use mathlib.Core.Bool.{Bool, true, false, not, ◌&&◌, ◌||◌, cond}
 use mathlib.Core.List.{List}
@@ -172,20 +174,29 @@ module _ (p : FaultPlan) where
   turned step y moved time t active shown et ey es =
       record { is = rw (es, ey, et, counted (leb 1 step) (shows (numbers_by (active_by (time_of step) active) y) y (time_of step) time)) }
 
-  module _ (n step : ℕ) {y moved : List Float} {time t : Float} {active shown : Bool} (e : Turned step y moved time t active shown) where
+  -- with the steps from it up to `end`
+  module _ (step end : ℕ) {y moved : List Float} {time t : Float} {active shown : Bool} (l : step < end) (e : Turned step y moved time t active shown) where
+    abbrev left : ℕ
+    left = end - suc step
+
+    one_more : end - step ≡ suc left
+    one_more = omega (arith, l)
+
     -- it is detected
-    pub found : (leb 1 step && shown) ≡ true → (look_from step (at y time active) (suc n)).detected ≡ true
+    pub found : (leb 1 step && shown) ≡ true → (look_from step (at y time active) (end - step)).detected ≡ true
     unfolding look_from
-    found h = detected_stays n (suc step) (look_step step (at y time active)) (rw e.is h)
+    found h = rw one_more (detected_stays left (suc step) (look_step step (at y time active)) (rw e.is h))
 
     -- it clears the fault and is not detected
-    pub gone : (leb 1 step && shown) ≡ false → (active_by t active && clears_by t) ≡ true → (look_from step (at y time active) (suc n)).detected ≡ false
+    pub gone : (leb 1 step && shown) ≡ false → (active_by t active && clears_by t) ≡ true → (look_from step (at y time active) (end - step)).detected ≡ false
     unfolding look_from
-    gone h k = cleared_stays n (suc step) (look_step step (at y time active)) (rw e.is k) ∙ rw e.is h
+    gone h k = rw one_more (cleared_stays left (suc step) (look_step step (at y time active)) (rw e.is k) ∙ rw e.is h)
 
     -- neither
-    pub next : (leb 1 step && shown) ≡ false → (active_by t active && clears_by t) ≡ false → (look_from step (at y time active) (suc n)).detected ≡ (look_from (suc step) (at moved t (active_by t active)) n).detected
+    pub next : (leb 1 step && shown) ≡ false → (active_by t active && clears_by t) ≡ false
+        → (look_from step (at y time active) (end - step)).detected ≡ (look_from (step + 1) (at moved t (active_by t active)) (end - (step + 1))).detected
     unfolding look_from
     next h k =
-        ap (λ (l : Look). (look_from (suc step) l n).detected)
-        (e.is ∙ λ i. record { y = moved; time = t; cleared = k i; active = active_by t active; detected = h i })
+        rw (one_more, add-one)
+        (ap (λ (q : Look). (look_from (suc step) q left).detected)
+        (e.is ∙ λ i. record { y = moved; time = t; cleared = k i; active = active_by t active; detected = h i }))

@@ -1,27 +1,16 @@
 // Whether a fault is detected within steps of a case, by the voltages and cable currents of the steps alone: no station currents, no fault current, no other variable of the run.
 ghost use Rattle.std.specs.Prelude.{◌≡◌, false, cond, ◌-◌};
-ghost use Rattle.float64.specs.Arithmetic.{of};
-ghost use Rattle.network.specs.Network.{station_count, cable_count, end};
-ghost use Rattle.state_derivatives.specs.Derivatives.{derivatives};
+ghost use Rattle.state_derivatives.specs.Derivatives.{stations_in, cables_in, slopes};
 ghost use Rattle.transient.specs.Rk4.{new_state};
 ghost use Rattle.case_steps.specs.Plans.{plan_case_from};
 
 use case_steps::OpenCase;
 use detection::shows_fault;
 use fault_plan::FaultPlan;
-use grid::{MOST_CABLES, MOST_STATIONS};
+use network::{Drain, Network};
 use run_start::step_time_ms;
-use state_derivatives::{StageSetting, StageState};
+use state_derivatives::StageState;
 use transient::moved_numbers;
-
-// What a step of a fault that is not cleared moves the numbers by.
-#[derive(Clone, Copy)]
-struct StepSetting {
-    stage: StageSetting,
-    dt_s: f64,
-    // The fault's inception is reached at the step.
-    active: bool,
-}
 
 // What case_steps leaves in `detected` after the steps from the number `first` up to `end`, which is not made.
 // Once a step is detected that stays, and once the fault is cleared no step counts.
@@ -49,31 +38,18 @@ fn shows_before_clearing(plan: FaultPlan, first: u64, end: u64, start: OpenCase)
     let network = plan.network;
     let n = network.n_stations;
     let m = network.n_cables;
-    let from = network.from;
-    let to = network.to;
-    let r = network.resistance_ohm;
-    let l = network.inductance_h;
-    let c = network.capacitance_f;
     let rated = plan.rated_kv;
-    let drain = k.drain;
-    let stage = StageSetting { n, m, drain };
     let v = start.variables;
     let s = v.state;
     let mut y = s.y;
     let mut time_ms = s.time_ms;
     let mut active = v.fault_active;
-    let mut step = first;
-    while step < end {
+    for step in first..end {
         let t_ms = step_time_ms(k.dt_ms, step);
         active = active | (inception_ms <= t_ms);
-        let setting = StepSetting {
-            stage,
-            dt_s: k.dt_ms * 0.001,
-            active,
-        };
         let before = y;
         let now = StageState { y: before };
-        let moved = numbers_after(&from, &to, &r, &l, &c, setting, now);
+        let moved = numbers_after(&network, k.drain, k.dt_ms * 0.001, active, now);
         y = moved.y;
         // The breakers clear the fault in this step.
         let clears = active & (k.breaker_clear_ms <= t_ms - inception_ms);
@@ -86,26 +62,22 @@ fn shows_before_clearing(plan: FaultPlan, first: u64, end: u64, start: OpenCase)
             return false;
         }
         time_ms = t_ms;
-        step += 1;
     }
     false
 }
 
-// The voltages and cable currents after a step: moved from inception on, as they are before.
+// The voltages and cable currents after a step of `dt_s` seconds: moved once the fault's inception is reached, and until then left as they are.
 fn numbers_after(
-    from: &[usize; MOST_CABLES],
-    to: &[usize; MOST_CABLES],
-    r: &[f64; MOST_CABLES],
-    l: &[f64; MOST_CABLES],
-    c: &[f64; MOST_STATIONS],
-    setting: StepSetting,
+    network: &Network,
+    drain: Drain,
+    dt_s: f64,
+    active: bool,
     start: StageState,
 ) -> StageState
-    ensures { result.y ≡ cond setting.active (new_state (station_count setting.stage.n) (cable_count setting.stage.m) (derivatives (end from.now) (end to.now) (of r.now) (of l.now) (of c.now) setting.stage.drain (station_count setting.stage.n) (cable_count setting.stage.m)) setting.dt_s start.y) start.y }
+    ensures { result.y ≡ cond active (new_state (stations_in network.now) (cables_in network.now) (slopes network.now drain) dt_s start.y) start.y }
 {
-    if setting.active {
-        let stage = setting.stage;
-        return moved_numbers(from, to, r, l, c, stage, start, setting.dt_s);
+    if active {
+        return moved_numbers(network, drain, start, dt_s);
     }
     start
 }

@@ -1,11 +1,13 @@
 -- The claims speak of what the code returns: what a caller learns from the contract in src/, as Rattle reads its clauses, gives the claim of the result, and nothing is asked of the caller.
 -- Assumes nothing.
 use mathlib.Core.Path.{◌≡◌, sym, ◌∙◌}
+use Rattle.std.specs.Prelude.{Ok}
 use contract.Lifetimes.{Lfts}
 use borrow.Fn.World.{ArgsD, ResD}
 use borrow.Fn.Kinds.{ended_of}
 use denote.Triple.Clauses.{AtExit}
 use Rattle.rules.specs.Studies.{number_of}
+use Rattle.rules.proofs.Outcomes.{ok_at}
 use Rattle.detection.specs.Detection.{detected}
 use Rattle.detection.proofs.Claims.{detection_claims}
 use Rattle.detection.specs.contracts.detect.detects as detects-contract
@@ -20,8 +22,8 @@ module _ (κs : Lfts 0) (a : ArgsD detect-contract.signature κs) (r : ResD dete
   pub detect_any : reads.Asked κs a
   detect_any = tt
 
-  pub detect_accepted : reads.Learnt κs a r e → number_of r.verdict ≡ 0 → r.detected ≡ detected a.0 a.1.0 a.1.1.0
-  detect_accepted h k = h.1 ∙ detection_claims.accepted a.0 a.1.0 a.1.1.0 (sym h.0 ∙ k)
+  pub detect_accepted : reads.Learnt κs a r e → number_of r ≡ 0 → r ≡ Ok (detected a.0 a.1.0 a.1.1.0)
+  detect_accepted h k = ok_at r _ k (rw (← detection_claims.accepted a.0 a.1.0 a.1.1.0 (sym h.0 ∙ k)) h.1)
 
 module _ (κs : Lfts 1) (a : ArgsD detects-contract.signature κs) where
   pub detects_any : detects-reads.Asked κs a

@@ -1,5 +1,5 @@
 // A fault shows in a current that changes fast, or in a voltage far below rated.
-ghost use Rattle.std.specs.Prelude.{◌≡◌, ◌≤◌, ◌+◌};
+ghost use Rattle.std.specs.Prelude.{◌≡◌, ◌≤◌, ◌+◌, IfOk};
 ghost use Rattle.lists.specs.Scans.{some};
 ghost use Rattle.float64.specs.Arithmetic.{of};
 ghost use Rattle.rules.specs.Studies.{number_of, detection_refusal};
@@ -7,41 +7,27 @@ ghost use Rattle.detection.specs.Detection.{time_between, fast, low, shown_by, d
 
 use float64::{abs, max};
 use grid::{DcSwitchingSimulator, MOST_CABLES, MOST_STATIONS, present};
-use rules::{Verdict, check_detection, number};
+use rules::{Refusal, check_detection};
 use run_start::rated_voltages;
 use state_derivatives::DcTransientState;
 
-// Nothing is detected where the grid is refused.
-#[derive(Clone, Copy)]
-pub struct DetectionAnswer {
-    pub verdict: Verdict,
-    pub detected: bool,
-}
-
 // DcSwitchingSimulator::detect_fault
+#[tactic(auto, unfolding(rules::specs::Studies::number_of))]
 pub fn detect_fault(
     g: DcSwitchingSimulator,
     state: DcTransientState,
     prev: DcTransientState,
-) -> DetectionAnswer
-    ensures refusal { number_of result.verdict ≡ detection_refusal g }
-    ensures answer { result.detected ≡ detection g state prev }
+) -> Result<bool, Refusal>
+    ensures refusal { number_of result ≡ detection_refusal g }
+    ensures answer { IfOk result (λ detected. detected ≡ detection g state prev) }
 {
-    let verdict = check_detection(g);
-    if number(verdict) == 0 {
-        let rated = rated_voltages(g);
-        return DetectionAnswer {
-            verdict,
-            detected: detects(&rated, g.n_stations, g.n_cables, state, prev),
-        };
-    }
-    DetectionAnswer {
-        verdict,
-        detected: false,
-    }
+    check_detection(g)?;
+    let rated = rated_voltages(g);
+    Ok(detects(&rated, g.n_stations, g.n_cables, state, prev))
 }
 
 // Whether a fault shows between two states of a grid that is known to be accepted, by its counts and its rated voltages: what a sweep asks after each step.
+#[tactic(auto, unfolding(crate::specs::Detection::detected_by))]
 pub fn detects(
     rated_kv: &[f64; 96],
     n_stations: usize,
@@ -65,6 +51,7 @@ pub fn detects(
 }
 
 // The same from the voltages, cable currents and times of the two states alone. A count past the arrays takes all of them.
+#[tactic(auto, unfolding(crate::specs::Detection::shown_by))]
 pub fn shows_fault(
     rated_kv: &[f64; 96],
     y: &[f64; 96],
@@ -102,12 +89,10 @@ fn some_current_fast(
     requires { (n_stations ≤ 32) × (n_cables ≤ 64) }
     ensures { result ≡ some n_cables (λ k. fast dt_ms (of y.now (n_stations + k)) (of before.now (n_stations + k))) }
 {
-    let mut k = 0;
-    while k < n_cables {
+    for k in 0..n_cables {
         if is_fast(dt_ms, y[n_stations + k], before[n_stations + k]) {
             return true;
         }
-        k += 1;
     }
     false
 }
@@ -124,12 +109,10 @@ fn some_voltage_low(rated_kv: &[f64; 96], y: &[f64; 96], n_stations: usize) -> b
     requires { n_stations ≤ 32 }
     ensures { result ≡ some n_stations (λ i. low (of y.now i) (of rated_kv.now i)) }
 {
-    let mut i = 0;
-    while i < n_stations {
+    for i in 0..n_stations {
         if is_low(y[i], rated_kv[i]) {
             return true;
         }
-        i += 1;
     }
     false
 }

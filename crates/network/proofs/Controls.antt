@@ -1,5 +1,5 @@
 -- Worked examples of the definitions, at numbers at which another order of the operations gives another double. The answers are the published lines' in Rust's doubles. Assumes nothing.
-use Rattle.std.proofs.Common.{◌≡◌, ℕ, List, [], ◌∷◌, refl}
+use Rattle.std.proofs.Common.{◌≡◌, ℕ, [], ◌∷◌, refl}
 use lib.Ieee.{Float, binary64, of_bits, of_int, round, add, mul, div, lt, eq, is_nan}
 use Rattle.float64.specs.Constants.{nought, decimal}
 use Rattle.float64.specs.Choice.{max_of}

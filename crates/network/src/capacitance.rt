@@ -32,11 +32,9 @@ pub fn joined_capacitance(id: u64, cables: [DcCable; MOST_CABLES], n_cables: usi
     ensures { result ≡ joined_capacitance id (take n_cables cables) }
 {
     let mut joined = 0.0;
-    let mut i = 0;
-    while i < n_cables {
+    for i in 0..n_cables {
         let c = cables[i];
         joined = with_cable(id, joined, c);
-        i += 1;
     }
     joined
 }

@@ -75,12 +75,10 @@ fn read_ends(
     ensures from { from.new ≡ end_table cables n_cables (λ c. c.from_station) }
     ensures to { to.new ≡ end_table cables n_cables (λ c. c.to_station) }
 {
-    let mut i = 0;
-    while i < n_cables {
+    for i in 0..n_cables {
         let c = cables[i];
         from[i] = c.from_station as usize;
         to[i] = c.to_station as usize;
-        i += 1;
     }
 }
 
@@ -95,12 +93,10 @@ fn read_impedances(
     ensures resistances { r.new ≡ cable_table cables n_cables resistance }
     ensures inductances { l.new ≡ cable_table cables n_cables inductance }
 {
-    let mut i = 0;
-    while i < n_cables {
+    for i in 0..n_cables {
         let c = cables[i];
         r[i] = cable_resistance(c);
         l[i] = cable_inductance(c);
-        i += 1;
     }
 }
 
@@ -122,12 +118,10 @@ fn read_capacitances(
     requires { (n_stations ≤ 32) × (n_cables ≤ 64) × (c.old ≡ blank 32 nought) }
     ensures { c.new ≡ station_table stations n_stations (farads (take n_cables cables)) }
 {
-    let mut i = 0;
-    while i < n_stations {
+    for i in 0..n_stations {
         let s = stations[i];
         let joined = joined_capacitance(s.id, cables, n_cables);
         c[i] = max(capacitance_with(s, joined) * 0.000001, 0.000000000001);
-        i += 1;
     }
 }
 

@@ -1,7 +1,7 @@
 -- Worked examples of the definitions: they are believed, so a wrong clause need break no other proof. The answers are the published Rust's.
 use Prim.Native.Nat.{ℕ}
 use mathlib.Core.Path.{◌≡◌, refl}
-use lib.Ieee.{Float, binary64, of_bits, of_int, round, neg, add, sub, mul, div, lt, eq, is_nan}
+use lib.Ieee.{Float, binary64, of_bits, round, add, mul, lt, is_nan}
 use Rattle.float64.specs.Constants.{decimal}
 use Rattle.float64.specs.Choice.{min_of}
 use Rattle.recovery.specs.Recovery.{recovering}

@@ -16,10 +16,8 @@ pub fn recover_voltages(y: &mut [f64; 96], rated: &[f64; 96], n_stations: usize)
     ensures { y.new ≡ over (min n_stations 32) (λ i. recovering (of rated.now i) (of y.old i)) nan y.old }
 {
     let n = present(n_stations, MOST_STATIONS);
-    let mut i = 0;
-    while i < n {
+    for i in 0..n {
         y[i] = recovered(y[i], rated[i]);
-        i += 1;
     }
 }
 
@@ -38,11 +36,8 @@ pub fn all_recovered(y: &[f64; 96], rated: &[f64; 96], n_stations: usize) -> boo
     ensures { result ≡ each (min n_stations 32) (λ i. le (recovered_part ⊗ of rated.now i) (of y.now i)) }
 {
     let n = present(n_stations, MOST_STATIONS);
-    let mut i = 0;
-    while i < n {
-        if has_recovered(y[i], rated[i]) {
-            i += 1;
-        } else {
+    for i in 0..n {
+        if !has_recovered(y[i], rated[i]) {
             return false;
         }
     }
@@ -60,12 +55,10 @@ pub fn none_below(y: &[f64; 96], rated: &[f64; 96], n_stations: usize) -> bool
     ensures { result ≡ each (min n_stations 32) (λ i. not (lt (of y.now i) (of rated.now i))) }
 {
     let n = present(n_stations, MOST_STATIONS);
-    let mut i = 0;
-    while i < n {
+    for i in 0..n {
         if y[i] < rated[i] {
             return false;
         }
-        i += 1;
     }
     true
 }

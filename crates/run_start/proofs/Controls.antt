@@ -1,5 +1,5 @@
 -- Worked examples of the definitions, with the answers of the published Rust. Assumes nothing.
-use Rattle.std.proofs.Common.{◌≡◌, [], ◌∷◌, replicate, refl}
+use Rattle.std.proofs.Common.{◌≡◌, ◌∷◌, replicate, refl}
 use lib.Ieee.{binary64, of_bits, of_int, round, mul}
 use Rattle.lists.specs.Tables.{tab, padded}
 use Rattle.float64.specs.Constants.{nought, decimal}

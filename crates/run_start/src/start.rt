@@ -20,11 +20,9 @@ pub fn rated_voltages(g: DcSwitchingSimulator) -> [f64; 96]
     let stations = g.stations;
     let n = present(g.n_stations, MOST_STATIONS);
     let mut y = [0.0; 96];
-    let mut i = 0;
-    while i < n {
+    for i in 0..n {
         let s = stations[i];
         y[i] = s.v_dc_rated_kv;
-        i += 1;
     }
     y
 }
@@ -35,10 +33,8 @@ pub fn breakers_all(n_breakers: usize, closed: bool) -> [bool; MOST_BREAKERS]
 {
     let n = present(n_breakers, MOST_BREAKERS);
     let mut breakers = [false; MOST_BREAKERS];
-    let mut i = 0;
-    while i < n {
+    for i in 0..n {
         breakers[i] = closed;
-        i += 1;
     }
     breakers
 }

@@ -11,8 +11,8 @@ use denote.Triple.Clauses.{AtExit}
 use Rattle.lists.proofs.Fills.{get_d_padded}
 use Rattle.float64.specs.Constants.{nought}
 use Rattle.float64.specs.Arithmetic.{of}
-use Rattle.network.specs.Network.{station_count, cable_count, end}
-use Rattle.state_derivatives.specs.Derivatives.{net, derivative, derivatives}
+use Rattle.network.specs.Network.{end}
+use Rattle.state_derivatives.specs.Derivatives.{net, derivative, derivatives, stations_in, cables_in}
 use Rattle.state_derivatives.specs.contracts.derivatives.state_derivatives as derivatives-contract
 use Rattle.state_derivatives.proofs.derivatives.state_derivatives.Kinds as derivatives-kinds
 use Rattle.state_derivatives.proofs.derivatives.state_derivatives.Reads as derivatives-reads
@@ -20,22 +20,25 @@ use Rattle.state_derivatives.specs.contracts.derivatives.net_currents as current
 use Rattle.state_derivatives.proofs.derivatives.net_currents.Kinds as currents-kinds
 use Rattle.state_derivatives.proofs.derivatives.net_currents.Reads as currents-reads
 
-module _ (κs : Lfts 5) (a : ArgsD derivatives-contract.signature κs) (r : ResD derivatives-contract.signature κs) (e : AtExit (ended_of 5 derivatives-kinds.ps derivatives-kinds.r) κs) where
+module _ (κs : Lfts 1) (a : ArgsD derivatives-contract.signature κs) (r : ResD derivatives-contract.signature κs) (e : AtExit (ended_of 1 derivatives-kinds.ps derivatives-kinds.r) κs) where
   pub derivatives_any : derivatives-reads.Asked κs a
   derivatives_any = tt
 
   -- how fast a number of the state changes
   pub derivatives_each : derivatives-reads.Learnt κs a r e → (i : ℕ)
-      → let z = a.1.1.1.1.1.0 in
-      i < station_count z.n + cable_count z.m
-      → of r.dy i ≡ derivative (end a.0.now) (end a.1.0.now) (of a.1.1.0.now) (of a.1.1.1.0.now) (of a.1.1.1.1.0.now) z.drain (station_count z.n) (cable_count z.m) a.1.1.1.1.1.1.0.y i
+      → let w = a.0.now in
+      i < stations_in w + cables_in w
+      → of r.dy i ≡ derivative (end w.from) (end w.to) (of w.resistance_ohm) (of w.inductance_h) (of w.capacitance_f) a.1.0 (stations_in w) (cables_in w) a.1.1.0.y i
   unfolding derivatives
   derivatives_each h i l = rw h (get_d_padded 96 _ _ nought nan i l (omega arith))
 
-module _ (κs : Lfts 2) (a : ArgsD currents-contract.signature κs) (r : ResD currents-contract.signature κs) (e : AtExit (ended_of 2 currents-kinds.ps currents-kinds.r) κs) where
+module _ (κs : Lfts 1) (a : ArgsD currents-contract.signature κs) (r : ResD currents-contract.signature κs) (e : AtExit (ended_of 1 currents-kinds.ps currents-kinds.r) κs) where
   pub currents_any : currents-reads.Asked κs a
   currents_any = tt
 
   -- the current into a station
-  pub currents_each : currents-reads.Learnt κs a r e → (i : ℕ) → i < station_count a.1.1.1.0 → of r i ≡ net (end a.0.now) (end a.1.0.now) (station_count a.1.1.1.0) a.1.1.0.y (cable_count a.1.1.1.1.0) i
+  pub currents_each : currents-reads.Learnt κs a r e → (i : ℕ)
+      → let w = a.0.now in
+      i < stations_in w
+      → of r i ≡ net (end w.from) (end w.to) (stations_in w) a.1.0.y (cables_in w) i
   currents_each h i l = rw h (get_d_padded 32 _ _ nought nan i l (omega arith))

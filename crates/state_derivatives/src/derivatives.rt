@@ -4,12 +4,12 @@ ghost use Rattle.std.specs.Float.{nan};
 ghost use Rattle.lists.specs.Tables.{blank, over, padded};
 ghost use Rattle.float64.specs.Constants.{nought};
 ghost use Rattle.float64.specs.Arithmetic.{of, ◌⊖◌, ◌⊗◌, ◌⊘◌};
-ghost use Rattle.network.specs.Network.{station_count, cable_count, end};
-ghost use Rattle.state_derivatives.specs.Derivatives.{passed, net, drain_current, drained, cable_rate, derivatives};
+ghost use Rattle.network.specs.Network.{end};
+ghost use Rattle.state_derivatives.specs.Derivatives.{passed, net, drain_current, drained, cable_rate, slopes, stations_in, cables_in};
 
 use crate::state::{StageSlopes, StageState};
 use grid::{MOST_CABLES, MOST_STATIONS, cut_end, present};
-use network::Drain;
+use network::{Drain, Network};
 
 // A cable in a stage.
 #[derive(Clone, Copy)]
@@ -28,53 +28,29 @@ struct StationStage {
     capacitance_f: f64,
 }
 
-// What is the same in every stage of a step, less the network's tables: n stations, m cables, and what a fault drains.
-#[derive(Clone, Copy)]
-pub struct StageSetting {
-    pub n: usize,
-    pub m: usize,
-    pub drain: Drain,
-}
-
 // DcSwitchingSimulator::state_derivatives. A count past the tables takes all of them.
-pub fn state_derivatives(
-    from: &[usize; MOST_CABLES],
-    to: &[usize; MOST_CABLES],
-    r: &[f64; MOST_CABLES],
-    l: &[f64; MOST_CABLES],
-    c: &[f64; MOST_STATIONS],
-    setting: StageSetting,
-    state: StageState,
-) -> StageSlopes
-    ensures { result.dy ≡ derivatives (end from.now) (end to.now) (of r.now) (of l.now) (of c.now) setting.drain (station_count setting.n) (cable_count setting.m) state.y }
+pub fn state_derivatives(network: &Network, drain: Drain, state: StageState) -> StageSlopes
+    ensures { result.dy ≡ slopes network.now drain state.y }
 {
-    let n = present(setting.n, MOST_STATIONS);
-    let m = present(setting.m, MOST_CABLES);
-    let y = state.y;
+    let n = present(network.n_stations, MOST_STATIONS);
+    let m = present(network.n_cables, MOST_CABLES);
     let mut nets = [0.0; MOST_STATIONS];
-    add_currents(&mut nets, from, to, &y, n, m);
-    drain_ends(&mut nets, setting.drain, &y, n);
+    add_currents(&mut nets, network, &state.y, n, m);
+    drain_ends(&mut nets, drain, &state.y, n);
     let mut dy = [0.0; 96];
-    station_rates(&mut dy, &nets, c, n);
-    cable_rates(&mut dy, from, to, r, l, &y, n, m);
+    station_rates(&mut dy, &nets, &network.capacitance_f, n);
+    cable_rates(&mut dy, network, &state.y, n, m);
     StageSlopes { dy }
 }
 
 // The current into each station. A count past the tables takes all of them.
-pub fn net_currents(
-    from: &[usize; MOST_CABLES],
-    to: &[usize; MOST_CABLES],
-    state: StageState,
-    n_stations: usize,
-    n_cables: usize,
-) -> [f64; MOST_STATIONS]
-    ensures { result ≡ padded 32 (station_count n_stations) (net (end from.now) (end to.now) (station_count n_stations) state.y (cable_count n_cables)) nought }
+pub fn net_currents(network: &Network, state: StageState) -> [f64; MOST_STATIONS]
+    ensures { result ≡ padded 32 (stations_in network.now) (net (end network.now.from) (end network.now.to) (stations_in network.now) state.y (cables_in network.now)) nought }
 {
-    let n = present(n_stations, MOST_STATIONS);
-    let m = present(n_cables, MOST_CABLES);
-    let y = state.y;
+    let n = present(network.n_stations, MOST_STATIONS);
+    let m = present(network.n_cables, MOST_CABLES);
     let mut nets = [0.0; MOST_STATIONS];
-    add_currents(&mut nets, from, to, &y, n, m);
+    add_currents(&mut nets, network, &state.y, n, m);
     nets
 }
 
@@ -82,19 +58,16 @@ pub fn net_currents(
 // cables were gone through for each station.
 fn add_currents(
     nets: &mut [f64; MOST_STATIONS],
-    from: &[usize; MOST_CABLES],
-    to: &[usize; MOST_CABLES],
+    network: &Network,
     y: &[f64; 96],
     n: usize,
     m: usize,
 )
     requires { (n ≤ 32) × (m ≤ 64) × (nets.old ≡ blank 32 nought) }
-    ensures { nets.new ≡ padded 32 n (net (end from.now) (end to.now) n y.now m) nought }
+    ensures { nets.new ≡ padded 32 n (net (end network.now.from) (end network.now.to) n y.now m) nought }
 {
-    let mut k = 0;
-    while k < m {
-        pass_current(nets, from[k], to[k], y[n + k], n);
-        k += 1;
+    for k in 0..m {
+        pass_current(nets, network.from[k], network.to[k], y[n + k], n);
     }
 }
 
@@ -147,14 +120,12 @@ fn station_rates(
     requires { (n ≤ 32) × (dy.old ≡ blank 96 nought) }
     ensures { dy.new ≡ padded 96 n (λ i. of nets.now i ⊘ of c.now i) nought }
 {
-    let mut i = 0;
-    while i < n {
+    for i in 0..n {
         let s = StationStage {
             net_current_ka: nets[i],
             capacitance_f: c[i],
         };
         dy[i] = station_rate(s);
-        i += 1;
     }
 }
 
@@ -165,30 +136,19 @@ fn station_rate(s: StationStage) -> f64
 }
 
 // The rates of the cable currents in kA/s, behind those of the voltages. The ends of a cable are cut to the last station.
-fn cable_rates(
-    dy: &mut [f64; 96],
-    from: &[usize; MOST_CABLES],
-    to: &[usize; MOST_CABLES],
-    r: &[f64; MOST_CABLES],
-    l: &[f64; MOST_CABLES],
-    y: &[f64; 96],
-    n: usize,
-    m: usize,
-)
+fn cable_rates(dy: &mut [f64; 96], network: &Network, y: &[f64; 96], n: usize, m: usize)
     requires { (n ≤ 32) × (m ≤ 64) }
-    ensures { dy.new ≡ over (n + m) (λ i. cond (ltb i n) (of dy.old i) (cable_rate (end from.now) (end to.now) (of r.now) (of l.now) n y.now (i - n))) nan dy.old }
+    ensures { dy.new ≡ over (n + m) (λ i. cond (ltb i n) (of dy.old i) (cable_rate (end network.now.from) (end network.now.to) (of network.now.resistance_ohm) (of network.now.inductance_h) n y.now (i - n))) nan dy.old }
 {
-    let mut k = 0;
-    while k < m {
+    for k in 0..m {
         let cable = CableStage {
-            v_from_kv: y[cut_end(from[k] as u64, n)],
-            v_to_kv: y[cut_end(to[k] as u64, n)],
+            v_from_kv: y[cut_end(network.from[k] as u64, n)],
+            v_to_kv: y[cut_end(network.to[k] as u64, n)],
             current_ka: y[n + k],
-            resistance_ohm: r[k],
-            inductance_h: l[k],
+            resistance_ohm: network.resistance_ohm[k],
+            inductance_h: network.inductance_h[k],
         };
         dy[n + k] = cable_rate(cable);
-        k += 1;
     }
 }
 

@@ -4,5 +4,5 @@
 mod derivatives;
 mod state;
 
-pub use derivatives::{StageSetting, net_currents, state_derivatives};
+pub use derivatives::{net_currents, state_derivatives};
 pub use state::{DcTransientState, StageSlopes, StageState};

@@ -18,6 +18,6 @@ module _ (κs : Lfts 0) (a : ArgsD step-contract.signature κs) (r : ResD step-c
   pub step_is : step-reads.Learnt κs a r e → r ≡ rk4_step a.0 a.1.0 a.1.1.0 a.1.1.1.0
   step_is h = h
 
-module _ (κs : Lfts 5) (a : ArgsD moved-contract.signature κs) where
+module _ (κs : Lfts 1) (a : ArgsD moved-contract.signature κs) where
   pub moved_any : moved-reads.Asked κs a
   moved_any = tt

@@ -2,12 +2,9 @@
 use Rattle.grid.specs.Simulator.{blank_cable}
 use Rattle.lists.proofs.Fills.{upto}
 use Rattle.lists.specs.Tables.{blank}
-use Rattle.std.proofs.Common.{◌≡◌, ◌-◌, ◌≤◌, get_or}
+use Rattle.std.proofs.Common.{◌≡◌, get_or}
 use Rattle.network.proofs.network.read_ends.Given as goal
 
 abbrev pub invariant-loop-i : goal.invariant-loop-i
 invariant-loop-i l =
-    (l.i ≤ l.n_cables) × (l.from ≡ upto l.i (λ k. (get_or l.cables k blank_cable).from_station) (blank 64 0)) × (l.to ≡ upto l.i (λ k. (get_or l.cables k blank_cable).to_station) (blank 64 0))
-
-abbrev pub decreases-loop-i : goal.decreases-loop-i
-decreases-loop-i l = l.n_cables - l.i
+    (l.from ≡ upto l.i (λ k. (get_or l.cables k blank_cable).from_station) (blank 64 0)) × (l.to ≡ upto l.i (λ k. (get_or l.cables k blank_cable).to_station) (blank 64 0))

@@ -8,20 +8,20 @@ use Rattle.lists.proofs.Fills.{upto, upto_none, upto_more, upto_padded, get_d_wi
 use Rattle.lists.proofs.Scanning.{unmapped}
 use Rattle.lists.proofs.Counting.{at_end_lem}
 use Rattle.lists.specs.Tables.{blank}
-use Rattle.std.proofs.Common.{◌≡◌, ◌-◌, length, get_or, ap, ◌∙◌, arith, rules}
+use Rattle.std.proofs.Common.{◌≡◌, length, get_or, ap, ◌∙◌, arith, rules}
 use Rattle.network.proofs.network.read_impedances.Goals as goal
 
 pub loop-i-init : goal.loop-i-init
-loop-i-init c = (omega arith, rw c.requires.1 (upto_none _ _), rw c.requires.2 (upto_none _ _))
+loop-i-init c = (rw c.requires.1 (upto_none _ _), rw c.requires.2 (upto_none _ _))
 
 pub loop-i-preserved : goal.loop-i-preserved
 loop-i-preserved c =
     let long : length c.args.cables ≡ 64 = search (rules, unmapped) in
     let i = c.loop-i.i in
     let same = get_d_within c.args.cables i _ blank_cable (omega (arith, long, c.requires.0)) in
-    (omega arith, upto_more _ _ i c.loop-i.invariant.1 (c.cable_resistance.ensures ∙ ap (λ (x : DcCable). resistance x) same), upto_more _ _ i c.loop-i.invariant.2 (c.cable_inductance.ensures ∙ ap (λ (x : DcCable). inductance x) same))
+    (upto_more _ _ i c.loop-i.invariant.0 (c.cable_resistance.ensures ∙ ap (λ (x : DcCable). resistance x) same), upto_more _ _ i c.loop-i.invariant.1 (c.cable_inductance.ensures ∙ ap (λ (x : DcCable). inductance x) same))
 
 pub returns : goal.returns
 returns c =
     let p = c.requires.0 in
-    record { resistances = at_end_lem (λ k. upto k (λ i. resistance (get_or c.args.cables i blank_cable)) (blank 64 nought)) c.loop-i.invariant.0 c.loop-i-test.false c.loop-i.invariant.1 ∙ upto_padded c.args.n_cables 64 _ nought p; inductances = at_end_lem (λ k. upto k (λ i. inductance (get_or c.args.cables i blank_cable)) (blank 64 nought)) c.loop-i.invariant.0 c.loop-i-test.false c.loop-i.invariant.2 ∙ upto_padded c.args.n_cables 64 _ nought p }
+    record { resistances = at_end_lem (λ k. upto k (λ i. resistance (get_or c.args.cables i blank_cable)) (blank 64 nought)) c.loop-i.auto.i-end c.loop-i-test.false c.loop-i.invariant.0 ∙ upto_padded c.args.n_cables 64 _ nought p; inductances = at_end_lem (λ k. upto k (λ i. inductance (get_or c.args.cables i blank_cable)) (blank 64 nought)) c.loop-i.auto.i-end c.loop-i-test.false c.loop-i.invariant.1 ∙ upto_padded c.args.n_cables 64 _ nought p }

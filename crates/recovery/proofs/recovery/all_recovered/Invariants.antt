@@ -3,7 +3,7 @@ use Rattle.lists.specs.Scans.{some}
 use Rattle.float64.specs.Arithmetic.{of, ◌⊗◌}
 use Rattle.recovery.specs.Constants.{recovered_part}
 use lib.Ieee.{Float, le}
-use Prim.Native.Nat.{ℕ, ◌-◌, ◌≤◌}
+use Prim.Native.Nat.{ℕ}
 use mathlib.Core.Bool.{Bool, false, not}
 use mathlib.Core.List.{List}
 use mathlib.Core.Path.{◌≡◌}
@@ -14,7 +14,4 @@ abbrev pub behind : List Float → List Float → ℕ → Bool
 behind y rated i = not (le (recovered_part ⊗ of rated i) (of y i))
 
 abbrev pub invariant-loop-i : goal.invariant-loop-i
-invariant-loop-i l = (l.i ≤ l.n) × (some l.i (behind l.y l.rated) ≡ false)
-
-abbrev pub decreases-loop-i : goal.decreases-loop-i
-decreases-loop-i l = l.n - l.i
+invariant-loop-i l = some l.i (behind l.y l.rated) ≡ false

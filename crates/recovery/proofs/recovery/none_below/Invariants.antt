@@ -2,7 +2,7 @@
 use Rattle.lists.specs.Scans.{some}
 use Rattle.float64.specs.Arithmetic.{of}
 use lib.Ieee.{Float, lt}
-use Prim.Native.Nat.{ℕ, ◌-◌, ◌≤◌}
+use Prim.Native.Nat.{ℕ}
 use mathlib.Core.Bool.{Bool, false, not}
 use mathlib.Core.List.{List}
 use mathlib.Core.Path.{◌≡◌}
@@ -13,7 +13,4 @@ abbrev pub below : List Float → List Float → ℕ → Bool
 below y rated i = not (not (lt (of y i) (of rated i)))
 
 abbrev pub invariant-loop-i : goal.invariant-loop-i
-invariant-loop-i l = (l.i ≤ l.n) × (some l.i (below l.y l.rated) ≡ false)
-
-abbrev pub decreases-loop-i : goal.decreases-loop-i
-decreases-loop-i l = l.n - l.i
+invariant-loop-i l = some l.i (below l.y l.rated) ≡ false

@@ -7,30 +7,24 @@ use Rattle.lists.proofs.Fills.{upto, upto_none, upto_more, upto_padded, get_d_wi
 use Rattle.lists.proofs.Scanning.{unmapped}
 use Rattle.lists.proofs.Counting.{at_end_lem}
 use Rattle.lists.specs.Tables.{blank, padded}
-use Rattle.std.proofs.Common.{◌≡◌, ℕ, ◌-◌, length, ap, ◌∙◌, arith, rules}
+use Rattle.std.proofs.Common.{◌≡◌, ℕ, length, ap, ◌∙◌, arith, rules}
 use Rattle.run_start.proofs.start.rated_voltages.Goals as goal
 
 pub loop-i-init : goal.loop-i-init
 unfolding blank
-loop-i-init c = (omega arith, upto_none _ _)
-
-pub bounds-stations-i : goal.bounds-stations-i
-bounds-stations-i c = omega (arith, c.present-n.ensures)
-
-pub bounds-y-i : goal.bounds-y-i
-bounds-y-i c = omega (arith, c.present-n.ensures)
+loop-i-init c = upto_none _ _
 
 pub loop-i-preserved : goal.loop-i-preserved
 loop-i-preserved c =
     let long : length c.args.g.stations ≡ 32 = search (rules, unmapped) in
     let i = c.loop-i.i in
     let same = get_d_within c.args.g.stations i _ blank_station (omega (arith, long, c.present-n.ensures)) in
-    (omega arith, upto_more _ _ i c.loop-i.invariant.1 (ap (λ (s : ConverterStation). s.v_dc_rated_kv) same))
+    (upto_more _ _ i c.loop-i.invariant (ap (λ (s : ConverterStation). s.v_dc_rated_kv) same))
 
 pub returns : goal.returns
 unfolding rated_of
 returns c =
     let g = c.args.g in
-    at_end_lem (λ k. upto k (rated g.stations) (blank 96 nought)) c.loop-i.invariant.0 c.loop-i-test.false c.loop-i.invariant.1
+    at_end_lem (λ k. upto k (rated g.stations) (blank 96 nought)) c.loop-i.auto.i-end c.loop-i-test.false c.loop-i.invariant
     ∙ upto_padded c.present-n.result 96 _ nought (omega (arith, c.present-n.ensures))
     ∙ ap (λ (n : ℕ). padded 96 n (rated g.stations) nought) c.present-n.ensures

@@ -3,11 +3,8 @@ use Rattle.run_start.specs.Start.{rated}
 use Rattle.float64.specs.Constants.{nought}
 use Rattle.lists.proofs.Fills.{upto}
 use Rattle.lists.specs.Tables.{blank}
-use Rattle.std.proofs.Common.{◌≡◌, ◌-◌, ◌≤◌}
+use Rattle.std.proofs.Common.{◌≡◌}
 use Rattle.run_start.proofs.start.rated_voltages.Given as goal
 
 abbrev pub invariant-loop-i : goal.invariant-loop-i
-invariant-loop-i l = (l.i ≤ l.n) × (l.y ≡ upto l.i (rated l.stations) (blank 96 nought))
-
-abbrev pub decreases-loop-i : goal.decreases-loop-i
-decreases-loop-i l = l.n - l.i
+invariant-loop-i l = l.y ≡ upto l.i (rated l.stations) (blank 96 nought)

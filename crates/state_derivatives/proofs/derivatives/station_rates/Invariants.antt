@@ -3,12 +3,8 @@ use Rattle.float64.specs.Arithmetic.{◌⊘◌, of}
 use Rattle.float64.specs.Constants.{nought}
 use Rattle.lists.proofs.Fills.{upto}
 use Rattle.lists.specs.Tables.{blank}
-use Prim.Native.Nat.{◌-◌, ◌≤◌}
 use mathlib.Core.Path.{◌≡◌}
 use Rattle.state_derivatives.proofs.derivatives.station_rates.Given as goal
 
 abbrev pub invariant-loop-i : goal.invariant-loop-i
-invariant-loop-i l = (l.i ≤ l.n) × (l.dy ≡ upto l.i (λ k. of l.nets k ⊘ of l.c k) (blank 96 nought))
-
-abbrev pub decreases-loop-i : goal.decreases-loop-i
-decreases-loop-i l = l.n - l.i
+invariant-loop-i l = l.dy ≡ upto l.i (λ k. of l.nets k ⊘ of l.c k) (blank 96 nought)

@@ -1,5 +1,4 @@
 -- `blend` meets its contract. Assumes nothing.
-use Prim.Native.Nat.{◌-◌, ◌≤◌}
 use Rattle.transient.specs.Rk4.{weighted}
 use Rattle.float64.specs.Arithmetic.{◌⊕◌, ◌⊗◌, of}
 use Rattle.float64.specs.Constants.{nought}
@@ -10,7 +9,4 @@ use Rattle.transient.proofs.rk4.blend.Given as goal
 
 abbrev pub invariant-loop-i : goal.invariant-loop-i
 invariant-loop-i l =
-    (l.i ≤ l.size) × (l.out ≡ upto l.i (λ j. of l.y j ⊕ l.sixth ⊗ weighted (of l.dy1 j) (of l.dy2 j) (of l.dy3 j) (of l.dy4 j)) (blank 96 nought))
-
-abbrev pub decreases-loop-i : goal.decreases-loop-i
-decreases-loop-i l = l.size - l.i
+    l.out ≡ upto l.i (λ j. of l.y j ⊕ l.sixth ⊗ weighted (of l.dy1 j) (of l.dy2 j) (of l.dy3 j) (of l.dy4 j)) (blank 96 nought)

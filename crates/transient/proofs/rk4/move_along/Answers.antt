@@ -5,21 +5,19 @@ use Rattle.float64.specs.Constants.{nought}
 use Rattle.lists.proofs.Fills.{upto, upto_none, upto_more, upto_padded}
 use Rattle.lists.proofs.Counting.{at_end_lem}
 use Rattle.lists.specs.Tables.{blank}
-use native.Mathlib.Omega.{arith}
-use Prim.Native.Nat.{◌-◌}
 use mathlib.Core.Path.{refl, ◌∙◌}
 use Rattle.transient.proofs.rk4.move_along.Goals as goal
 
 pub loop-i-init : goal.loop-i-init
 unfolding blank
-loop-i-init c = (omega arith, upto_none _ _)
+loop-i-init c = upto_none _ _
 
 pub loop-i-preserved : goal.loop-i-preserved
 loop-i-preserved c =
-    (omega arith, upto_more _ _ _ c.loop-i.invariant.1 refl)
+    upto_more _ _ _ c.loop-i.invariant refl
 
 pub returns : goal.returns
 unfolding ahead
 returns c =
-    at_end_lem (λ n. upto n (λ i. of c.args.start.y i ⊕ c.args.h ⊗ of c.args.k.dy i) (blank 96 nought)) c.loop-i.invariant.0 c.loop-i-test.false c.loop-i.invariant.1
+    at_end_lem (λ n. upto n (λ i. of c.args.start.y i ⊕ c.args.h ⊗ of c.args.k.dy i) (blank 96 nought)) c.loop-i.auto.i-end c.loop-i-test.false c.loop-i.invariant
     ∙ upto_padded c.args.size 96 _ nought c.requires

@@ -6,19 +6,18 @@ use Rattle.lists.proofs.Fills.{upto, upto_none, upto_more, upto_over, get_d_upto
 use Rattle.lists.proofs.Counting.{at_end_lem}
 use lib.Ieee.{nan}
 use native.Mathlib.Omega.{arith}
-use Prim.Native.Nat.{◌-◌}
 use mathlib.Core.Path.{◌∙◌}
 use Rattle.transient.proofs.rk4.raise_voltages.Goals as goal
 
 pub loop-i-init : goal.loop-i-init
-loop-i-init c = (omega arith, upto_none _ _)
+loop-i-init c = upto_none _ _
 
 pub loop-i-preserved : goal.loop-i-preserved
 loop-i-preserved c =
     let y = c.args.moved.y in
-    (omega arith, upto_more _ _ _ c.loop-i.invariant.1 (rw (c.max.ensures, c.loop-i.invariant.1, get_d_upto_out c.loop-i.i _ y nan c.loop-i.i (omega arith))))
+    (upto_more _ _ _ c.loop-i.invariant (rw (c.max.ensures, c.loop-i.invariant, get_d_upto_out c.loop-i.i _ y nan c.loop-i.i (omega arith))))
 
 pub returns : goal.returns
 returns c =
-    at_end_lem (λ k. upto k (λ i. max_of (of c.args.moved.y i) nought) c.args.moved.y) c.loop-i.invariant.0 c.loop-i-test.false c.loop-i.invariant.1
+    at_end_lem (λ k. upto k (λ i. max_of (of c.args.moved.y i) nought) c.args.moved.y) c.loop-i.auto.i-end c.loop-i-test.false c.loop-i.invariant
     ∙ upto_over c.args.n _ nan c.args.moved.y

@@ -3,12 +3,8 @@ use Rattle.float64.specs.Choice.{max_of}
 use Rattle.float64.specs.Arithmetic.{of}
 use Rattle.float64.specs.Constants.{nought}
 use Rattle.lists.proofs.Fills.{upto}
-use Prim.Native.Nat.{◌-◌, ◌≤◌}
 use mathlib.Core.Path.{◌≡◌}
 use Rattle.transient.proofs.rk4.raise_voltages.Given as goal
 
 abbrev pub invariant-loop-i : goal.invariant-loop-i
-invariant-loop-i l = (l.i ≤ l.n) × (l.y ≡ upto l.i (λ k. max_of (of l.initial.y k) nought) l.initial.y)
-
-abbrev pub decreases-loop-i : goal.decreases-loop-i
-decreases-loop-i l = l.n - l.i
+invariant-loop-i l = l.y ≡ upto l.i (λ k. max_of (of l.initial.y k) nought) l.initial.y
