@@ -1,13 +1,13 @@
 -- The phases of a fault run's step, as the code tests for them. Assumes nothing.
 use Prim.Native.Nat.{ℕ, ◌<◌}
 use mathlib.Core.Path.{◌≡◌, refl, sym, ap, ◌∙◌}
-use mathlib.Core.Bool.{Bool, true, false, not, ◌&&◌, ◌||◌, cond}
+use mathlib.Core.Bool.{Bool, true, false, not, ◌&&◌, ◌||◌}
 use borrow.Author.Tests.{not-true, not-false}
 use lib.Ieee.{Float, nan, lt, le}
-use Rattle.lists.specs.Scans.{some, each}
+use Rattle.lists.specs.Scans.{each}
 use Rattle.lists.specs.Tables.{over}
 use Rattle.lists.proofs.Counting.{by-test, contrary}
-use Rattle.lists.proofs.Scanning.{and_second, or_second, left, right, some_found}
+use Rattle.lists.proofs.Scanning.{and_second, left, right, some_found}
 use Rattle.lists.proofs.Fills.{upto_over, upto_kept}
 use Rattle.float64.specs.Arithmetic.{of}
 use Rattle.network.specs.Network.{station_count}

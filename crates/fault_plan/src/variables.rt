@@ -1,4 +1,5 @@
-// The variables that the loop of 000's simulate_fault changes, by value.
+// The variables that the loop of 000's simulate_fault changes, by value: its flags and, beside them, its times, which have values before they are
+// reached.
 ghost use Rattle.std.specs.Prelude.{◌≡◌};
 ghost use Rattle.fault_plan.specs.Fault.{fresh_variables};
 

@@ -35,8 +35,7 @@ fn fault_run_refused(run: FaultRun) -> bool
 {
     let g = run.grid;
     let fault = run.fault;
-    let broken = rules::number(check_fault(g, fault));
-    if 0 < broken {
+    if check_fault(g, fault).is_err() {
         return true;
     }
     total_steps(g) < run.steps_made

@@ -3,4 +3,4 @@
 
 mod start;
 
-pub use start::{StartedFaultRun, simulate_fault};
+pub use start::simulate_fault;

@@ -4,6 +4,8 @@
 ghost use Rattle.std.specs.Prelude.{◌≡◌};
 ghost use Rattle.portions.specs.Stopping.{number_of, reason_of};
 
+// Why an advance stops. A refusal is one of four reasons with a number each, and the run or sweep is handed back with all of them: a Result would say
+// the same in two places.
 #[derive(Clone, Copy)]
 pub enum Stop {
     Finished,

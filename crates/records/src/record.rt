@@ -92,10 +92,8 @@ fn put_numbers(records: &mut [f64], at: usize, numbers: &[f64], first: usize, n:
     requires { (at + n ≤ length records.old) × (first + n ≤ length numbers.now) }
     ensures { records.new ≡ sets records.old at (tab n (λ i. of numbers.now (first + i))) }
 {
-    let mut i = 0;
-    while i < n {
+    for i in 0..n {
         records[at + i] = numbers[first + i];
-        i += 1;
     }
 }
 
@@ -104,10 +102,8 @@ fn put_breakers(records: &mut [f64], at: usize, breakers: &[bool; MOST_BREAKERS]
     requires { (at + n ≤ length records.old) × (n ≤ 32) }
     ensures { records.new ≡ sets records.old at (tab n (λ i. closed_number (get_or breakers.now i false))) }
 {
-    let mut i = 0;
-    while i < n {
+    for i in 0..n {
         records[at + i] = closed_number(breakers[i]);
-        i += 1;
     }
 }
 

@@ -1,4 +1,4 @@
-// What a refused run holds: all zero and false.
+// Grids and states that are all zero and false, as definitions of runs and sweeps that are not started have them.
 ghost use Rattle.std.specs.Prelude.{◌≡◌};
 ghost use Rattle.runs.specs.Blank.{blank_grid, blank_state};
 

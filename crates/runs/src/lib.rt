@@ -1,4 +1,4 @@
-// Runs: what a fault run and a switching run share. The figures of a run, what stands beside a refusal, and in specs/ the claim about every list of calls.
+// Runs: what a fault run and a switching run share. The figures of a run, blank values, and in specs/ the claim about every list of calls.
 #![tactic(auto)]
 
 mod blank;

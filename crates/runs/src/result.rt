@@ -1,4 +1,4 @@
-// 000's DcTransientResult, less the states: these are handed out by an advance.
+// 000's DcTransientResult with its flag, less the states: these are handed out by an advance.
 #[derive(Clone, Copy)]
 pub struct DcTransientResult {
     pub peak_fault_current_ka: f64,

@@ -16,7 +16,7 @@ use run_start::{breakers_all, rated_voltages};
 use state_derivatives::DcTransientState;
 use timing::{duration_ms, time_step_ms};
 
-// All that stays the same in every step of a switching run, worked out once.
+// All that stays the same in every step of a switching run, worked out once. The operation is 000's two arguments, a number and whether it opens.
 #[derive(Clone, Copy)]
 pub struct SwitchingPlan {
     pub network: Network,
@@ -81,11 +81,9 @@ fn drive_currents(
     requires { (n ≤ 32) × (m ≤ 64) × (y.old ≡ padded 96 n (λ i. rated stations i) nought) }
     ensures { y.new ≡ padded 96 (n + m) (driven stations cables n) nought }
 {
-    let mut i = n;
-    while i < n + m {
+    for i in n..n + m {
         let c = cables[i - n];
         y[i] = driven_current(stations, n, c);
-        i += 1;
     }
 }
 

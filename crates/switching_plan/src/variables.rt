@@ -1,4 +1,4 @@
-// The variables that the loop of 000's simulate_switching changes, by value.
+// The variables that the loop of 000's simulate_switching changes, by value; its flag among them.
 use state_derivatives::DcTransientState;
 
 #[derive(Clone, Copy)]

@@ -2,11 +2,13 @@
 use mathlib.Core.Path.{◌≡◌, ◌∙◌}
 use mathlib.Core.List.{List}
 use lib.Ieee.{Float}
+use Rattle.std.specs.Prelude.{Ok}
 use contract.Lifetimes.{Lfts}
 use borrow.Fn.World.{ArgsD, ResD}
 use borrow.Fn.Kinds.{ended_of}
 use denote.Triple.Clauses.{AtExit}
 use Rattle.rules.specs.Studies.{switching_refusal}
+use Rattle.rules.proofs.Outcomes.{ok_at}
 use Rattle.portions.specs.Calls.{Called, Chain, last, and}
 use Rattle.portions.specs.Refusals.{RefusedIf}
 use Rattle.portions.proofs.Course.{chain_and}
@@ -25,8 +27,8 @@ use Rattle.switching_runs.proofs.Tied.{call, advance_made}
 
 module _ (κs : Lfts 0) (a : ArgsD simulate-contract.signature κs) (r : ResD simulate-contract.signature κs) (e : AtExit (ended_of 0 simulate-kinds.ps simulate-kinds.r) κs) where
   -- one that is accepted is kept after 0 steps
-  pub simulate_accepted : simulate-reads.Learnt κs a r e → switching_refusal a.0 ≡ 0 → r.run ≡ switching_run_after a.0 a.1.0 a.1.1.0 0
-  simulate_accepted h z = h.1 ∙ switching_run_claims.started a.0 a.1.0 a.1.1.0 z
+  pub simulate_accepted : simulate-reads.Learnt κs a r e → switching_refusal a.0 ≡ 0 → r ≡ Ok (switching_run_after a.0 a.1.0 a.1.1.0 0)
+  simulate_accepted h z = ok_at r _ (h.0 ∙ z) (rw (← switching_run_claims.started a.0 a.1.0 a.1.1.0 z) h.1)
 
 module _ (κs : Lfts 1) (a : ArgsD advance-contract.signature κs) (r : ResD advance-contract.signature κs) (e : AtExit (ended_of 1 advance-kinds.ps advance-kinds.r) κs) where
   -- behind calls from s that kept the run which is advanced

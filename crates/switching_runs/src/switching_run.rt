@@ -12,7 +12,7 @@ use switching_plan::{SwitchingVariables, switching_plan};
 use switching_step::switching_step;
 use timing::{is_recorded, record_length, total_steps};
 
-// A kept run: the grid, the operation, the steps made and 000's variables after the last of them.
+// A kept run: the grid, the operation by 000's two arguments, the steps made and 000's variables after the last of them.
 #[derive(Clone, Copy)]
 pub struct SwitchingRun {
     pub grid: DcSwitchingSimulator,
@@ -35,8 +35,7 @@ fn switching_run_refused(run: SwitchingRun) -> bool
     ensures { result ≡ switching_run_refused run }
 {
     let g = run.grid;
-    let broken = rules::number(check_switching(g));
-    if 0 < broken {
+    if check_switching(g).is_err() {
         return true;
     }
     total_steps(g) < run.steps_made

@@ -1,5 +1,6 @@
 -- What a caller learns from the contracts in src/, as Rattle reads their clauses, is the definition of the result, and nothing is asked of the caller. Assumes nothing.
 use mathlib.Core.Path.{◌≡◌}
+use Rattle.std.specs.Prelude.{IfOk}
 use contract.Lifetimes.{Lfts}
 use borrow.Fn.World.{ArgsD, ResD}
 use borrow.Fn.Kinds.{ended_of}
@@ -14,8 +15,8 @@ module _ (κs : Lfts 0) (a : ArgsD simulate-contract.signature κs) (r : ResD si
   pub simulate_any : simulate-reads.Asked κs a
   simulate_any = tt
 
-  pub simulate_verdict : simulate-reads.Learnt κs a r e → number_of r.verdict ≡ switching_refusal a.0
-  simulate_verdict h = h.0
+  pub simulate_refusal : simulate-reads.Learnt κs a r e → number_of r ≡ switching_refusal a.0
+  simulate_refusal h = h.0
 
-  pub simulate_run : simulate-reads.Learnt κs a r e → r.run ≡ started_switching_run a.0 a.1.0 a.1.1.0
+  pub simulate_run : simulate-reads.Learnt κs a r e → IfOk r (λ run. run ≡ started_switching_run a.0 a.1.0 a.1.1.0)
   simulate_run h = h.1

@@ -3,4 +3,4 @@
 
 mod start;
 
-pub use start::{StartedSwitchingRun, simulate_switching};
+pub use start::simulate_switching;

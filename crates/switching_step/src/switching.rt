@@ -74,10 +74,8 @@ fn set_operated(breakers: &mut [bool; MOST_BREAKERS], n: usize, breaker_id: u64,
     requires { n ≤ 32 }
     ensures { breakers.new ≡ breakers_after n breaker_id «open» breakers.old }
 {
-    let mut i = 0;
-    while i < n {
+    for i in 0..n {
         breakers[i] = operated(breakers[i], i as u64, n as u64, breaker_id, open);
-        i += 1;
     }
 }
 
@@ -108,9 +106,7 @@ fn halve_currents(y: &mut [f64; 96], n: usize, m: usize)
     requires { (n ≤ 32) × (m ≤ 64) }
     ensures { y.new ≡ interrupted n m y.old }
 {
-    let mut i = n;
-    while i < n + m {
+    for i in n..n + m {
         y[i] = y[i] * 0.5;
-        i += 1;
     }
 }

@@ -17,16 +17,16 @@ use Rattle.switching_plan.proofs.plan.drive_currents.Goals as goal
 
 pub loop-i-init : goal.loop-i-init
 loop-i-init c =
-    (omega arith, omega arith, c.requires.2 ∙ padded_same 96 c.args.n _ (driven c.args.stations c.args.cables c.args.n) nought (λ k l. rw (lt-ltb k c.args.n l)) ∙ sym (upto_padded c.args.n 96 _ nought (omega (arith, c.requires.0))))
+    c.requires.2 ∙ padded_same 96 c.args.n _ (driven c.args.stations c.args.cables c.args.n) nought (λ k l. rw (lt-ltb k c.args.n l)) ∙ sym (upto_padded c.args.n 96 _ nought (omega arith))
 
 pub loop-i-preserved : goal.loop-i-preserved
 loop-i-preserved c =
     let long : length c.args.cables ≡ 64 = search (rules, unmapped) in
     let i = c.loop-i.i in
-    let same = get_d_within c.args.cables (i - c.args.n) _ blank_cable (omega (arith, long, c.requires.1, c.loop-i-test.true, c.loop-i.invariant.0)) in
-    (omega arith, omega arith, upto_more _ _ i c.loop-i.invariant.2 (c.driven_current.ensures ∙ ap (λ (x : DcCable). driven_current c.args.stations c.args.n x) same ∙ rw (le-ltb i c.args.n c.loop-i.invariant.0)))
+    let same = get_d_within c.args.cables (i - c.args.n) _ blank_cable (omega (arith, long)) in
+    upto_more _ _ i c.loop-i.invariant (c.driven_current.ensures ∙ ap (λ (x : DcCable). driven_current c.args.stations c.args.n x) same ∙ rw (le-ltb i c.args.n c.loop-i.auto.i))
 
 pub returns : goal.returns
 returns c =
-    at_end_lem (λ k. upto k (driven c.args.stations c.args.cables c.args.n) (blank 96 nought)) c.loop-i.invariant.1 c.loop-i-test.false c.loop-i.invariant.2
-    ∙ upto_padded (c.args.n + c.args.m) 96 _ nought (omega (arith, c.requires.0, c.requires.1))
+    at_end_lem (λ k. upto k (driven c.args.stations c.args.cables c.args.n) (blank 96 nought)) (c.loop-i.auto.i-end (omega arith)) c.loop-i-test.false c.loop-i.invariant
+    ∙ upto_padded (c.args.n + c.args.m) 96 _ nought (omega arith)

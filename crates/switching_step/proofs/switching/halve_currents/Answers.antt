@@ -4,20 +4,20 @@ use Rattle.lists.proofs.Counting.{at_end_lem}
 use borrow.Author.Tests.{lt-ltb, le-ltb}
 use lib.Ieee.{nan}
 use native.Mathlib.Omega.{arith}
-use Prim.Native.Nat.{◌+◌, ◌-◌}
+use Prim.Native.Nat.{◌+◌}
 use mathlib.Core.Path.{◌∙◌}
 use Rattle.switching_step.proofs.switching.halve_currents.Invariants.{halved}
 use Rattle.switching_step.proofs.switching.halve_currents.Goals as goal
 
 pub loop-i-init : goal.loop-i-init
-loop-i-init c = (omega arith, omega arith, upto_kept _ _ nan _ (λ k l. rw (lt-ltb k _ l)))
+loop-i-init c = upto_kept _ _ nan _ (λ k l. rw (lt-ltb k _ l))
 
 pub loop-i-preserved : goal.loop-i-preserved
 loop-i-preserved c =
     let i = c.loop-i.i in
-    (omega arith, omega arith, upto_more _ _ _ c.loop-i.invariant.2 (rw (c.loop-i.invariant.2, get_d_upto_out i _ c.args.y.now nan i (omega arith), le-ltb i c.args.n c.loop-i.invariant.0)))
+    upto_more _ _ _ c.loop-i.invariant (rw (c.loop-i.invariant, get_d_upto_out i _ c.args.y.now nan i (omega arith), le-ltb i c.args.n c.loop-i.auto.i))
 
 pub returns : goal.returns
 returns c =
-    at_end_lem (λ k. upto k (halved c.args.n c.args.y.now) c.args.y.now) c.loop-i.invariant.1 c.loop-i-test.false c.loop-i.invariant.2
+    at_end_lem (λ k. upto k (halved c.args.n c.args.y.now) c.args.y.now) (c.loop-i.auto.i-end (omega arith)) c.loop-i-test.false c.loop-i.invariant
     ∙ upto_over (c.args.n + c.args.m) _ nan c.args.y.now

@@ -4,7 +4,7 @@ use Rattle.float64.specs.Constants.{half}
 use Rattle.float64.specs.Arithmetic.{of, ◌⊗◌}
 use lib.Dec.{ltb}
 use lib.Ieee.{Float}
-use Prim.Native.Nat.{ℕ, ◌+◌, ◌-◌, ◌≤◌}
+use Prim.Native.Nat.{ℕ}
 use mathlib.Core.Bool.{cond}
 use mathlib.Core.List.{List}
 use mathlib.Core.Path.{◌≡◌}
@@ -14,7 +14,4 @@ abbrev pub halved : ℕ → List Float → ℕ → Float
 halved n y i = cond (ltb i n) (of y i) (of y i ⊗ half)
 
 abbrev pub invariant-loop-i : goal.invariant-loop-i
-invariant-loop-i l = (l.n ≤ l.i) × (l.i ≤ l.n + l.m) × (l.y ≡ upto l.i (halved l.n l.initial.y) l.initial.y)
-
-abbrev pub decreases-loop-i : goal.decreases-loop-i
-decreases-loop-i l = l.n + l.m - l.i
+invariant-loop-i l = l.y ≡ upto l.i (halved l.n l.initial.y) l.initial.y

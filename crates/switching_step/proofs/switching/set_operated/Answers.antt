@@ -2,7 +2,6 @@
 use Rattle.lists.proofs.Fills.{upto, upto_none, upto_more, upto_over, get_d_upto_out}
 use Rattle.lists.proofs.Counting.{at_end_lem}
 use native.Mathlib.Omega.{arith}
-use Prim.Native.Nat.{◌-◌}
 use mathlib.Core.Path.{◌∙◌}
 use Rattle.switching_plan.specs.Switching.{is_operated}
 use mathlib.Core.Bool.{false, not, cond}
@@ -10,13 +9,13 @@ use lib.ListN.{get_or}
 use Rattle.switching_step.proofs.switching.set_operated.Goals as goal
 
 pub loop-i-init : goal.loop-i-init
-loop-i-init c = (omega arith, upto_none _ _)
+loop-i-init c = upto_none _ _
 
 pub loop-i-preserved : goal.loop-i-preserved
 loop-i-preserved c =
-    (omega arith, upto_more _ _ _ c.loop-i.invariant.1 (rw (c.operated.ensures, c.loop-i.invariant.1, get_d_upto_out c.loop-i.i _ c.args.breakers.now false c.loop-i.i (omega arith))))
+    upto_more _ _ _ c.loop-i.invariant (rw (c.operated.ensures, c.loop-i.invariant, get_d_upto_out c.loop-i.i _ c.args.breakers.now false c.loop-i.i (omega arith)))
 
 pub returns : goal.returns
 returns c =
-    at_end_lem (λ k. upto k (λ i. cond (is_operated c.args.n c.args.breaker_id i) (not c.args.open) (get_or c.args.breakers.now i false)) c.args.breakers.now) c.loop-i.invariant.0 c.loop-i-test.false c.loop-i.invariant.1
+    at_end_lem (λ k. upto k (λ i. cond (is_operated c.args.n c.args.breaker_id i) (not c.args.open) (get_or c.args.breakers.now i false)) c.args.breakers.now) c.loop-i.auto.i-end c.loop-i-test.false c.loop-i.invariant
     ∙ upto_over c.args.n _ false c.args.breakers.now
