@@ -1,5 +1,5 @@
 -- The listing of a sweep, document 01.7, from 000's own run of each fault: nothing here knows of a kept sweep, a call or a portion. Definitions only.
-use Rattle.std.specs.Prelude.{ℕ, zero, suc, ◌+◌, Bool, false, not, ◌&&◌, ◌||◌, cond, List, [], ◌++◌, get_or, Float}
+use Rattle.std.specs.Prelude.{ℕ, zero, suc, Bool, false, not, ◌&&◌, ◌||◌, cond, List, [], ◌++◌, get_or, Float}
 use Rattle.std.proofs.Math.Option.{Option}
 use Rattle.float64.specs.Constants.{nought}
 use Rattle.grid.specs.declared.parts.DcFaultEvent.{DcFaultEvent}
@@ -11,7 +11,6 @@ use Rattle.detection.specs.Detection.{detected}
 use Rattle.power_flow.specs.declared.flow.DcGridSolution.{DcGridSolution}
 use Rattle.fault_plan.specs.Fault.{fault_after}
 use Rattle.portions.specs.Cases.{to_list, is_some}
-use Rattle.fault_cases.specs.declared.cases.CasePlace.{CasePlace}
 use Rattle.case_reasons.specs.declared.reasons.CaseOutcome.{CaseOutcome}
 use Rattle.fault_cases.specs.Cases.{place_of, fault_of}
 use Rattle.case_reasons.specs.Reasons.{reasons_of, row_of}

@@ -10,6 +10,7 @@ use Rattle.grid.specs.declared.parts.DcCable.{DcCable}
 use Rattle.grid.specs.declared.parts.DcBreaker.{DcBreaker}
 use Rattle.grid.specs.declared.simulator.DcSwitchingSimulator.{DcSwitchingSimulator}
 use Rattle.fault_cases.specs.declared.cases.CasePlace.{CasePlace}
+use Rattle.fault_cases.specs.Cases.{type_number}
 use Rattle.case_reasons.specs.declared.reasons.CaseOutcome.{CaseOutcome}
 use Rattle.case_reasons.specs.declared.reasons.Limit.{Limit}
 use Rattle.case_reasons.specs.declared.reasons.Limit.TheVariants.{BreakingCurrent, Energy}
@@ -60,7 +61,7 @@ current_shown x = cond x.cleared x.clearing_current_ka nought
 abbrev pub numbers_of : CasePlace → (reasons : ℕ) → CaseOutcome → (loss : Float) → List ℕ
 numbers_of p reasons x loss =
     p.cable ∷
-    p.fault_type ∷
+    type_number p.fault_type ∷
     p.tenth ∷
     reasons ∷
     bits_of x.peak_fault_ka ∷

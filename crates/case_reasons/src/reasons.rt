@@ -7,7 +7,8 @@ use grid::{DcBreaker, DcCable, DcSwitchingSimulator, MOST_BREAKERS, present};
 
 const MOST_CABLES: u64 = 64;
 
-// What the reasons and the row are read from, once all steps of a case are made.
+// What the reasons and the row are read from, once all steps of a case are made. Cleared or not and detected or not are reasons themselves, and the
+// current of a case that is not cleared is 0 in its row: no Option holds it.
 #[derive(Clone, Copy)]
 pub struct CaseOutcome {
     pub cleared: bool,
@@ -19,7 +20,7 @@ pub struct CaseOutcome {
     pub detected: bool,
 }
 
-// Which of the two limits of a breaker is meant.
+// Which of the two limits of a breaker is meant. No closure says it more plainly: the definitions name the limit too.
 #[derive(Clone, Copy)]
 pub enum Limit {
     BreakingCurrent,
@@ -47,7 +48,7 @@ pub fn reasons_for(g: DcSwitchingSimulator, cable_number: u64, outcome: CaseOutc
         + weight(!outcome.detected, 8)
 }
 
-// The number of a reason that applies, else 0.
+// The number of a reason that applies, else 0. Reasons are added up, so that each is a number.
 fn weight(applies: bool, reason: u64) -> u64
     ensures answer { result ≡ cond applies reason 0 }
     ensures most { result ≤ reason }
@@ -86,13 +87,10 @@ fn some_exceeded(
     requires { n ≤ 32 }
     ensures { result ≡ some n (exceeded_by breakers cable limit value) }
 {
-    let mut i = 0;
-    while i < n {
-        let b = breakers[i];
-        if is_exceeded(b, cable, limit, value) {
+    for i in 0..n {
+        if is_exceeded(breakers[i], cable, limit, value) {
             return true;
         }
-        i += 1;
     }
     false
 }
@@ -105,6 +103,7 @@ fn is_exceeded(b: DcBreaker, cable: DcCable, limit: Limit, value: f64) -> bool
     at_end & exceeds_limit(value, limit_of(b, limit))
 }
 
+// That limit of a breaker: a field for each, which no conversion says.
 fn limit_of(b: DcBreaker, limit: Limit) -> f64
     ensures { result ≡ limit_of limit b }
 {

@@ -5,7 +5,7 @@ ghost use Rattle.lists.specs.Tables.{tab};
 ghost use Rattle.case_reasons.specs.Reasons.{writes_row, numbers_of, current_shown};
 
 use crate::reasons::CaseOutcome;
-use fault_cases::CasePlace;
+use fault_cases::{CasePlace, type_number};
 use float64::to_bits;
 
 // The numbers of a row.
@@ -54,7 +54,7 @@ fn row_numbers(place: CasePlace, reasons: u64, outcome: CaseOutcome, loss_mw: f6
     let loss = to_bits(loss_mw);
     [
         place.cable,
-        place.fault_type,
+        type_number(place.fault_type),
         place.tenth,
         reasons,
         peak,
@@ -78,9 +78,7 @@ fn put_numbers(rows: &mut [u64], at: usize, row: &[u64; 8])
     requires { at + 8 ≤ length rows.old }
     ensures { rows.new ≡ sets rows.old at (tab 8 (λ k. get_or row.now k 0)) }
 {
-    let mut i = 0;
-    while i < ROW_LENGTH {
+    for i in 0..ROW_LENGTH {
         rows[at + i] = row[i];
-        i += 1;
     }
 }

@@ -3,4 +3,4 @@
 
 mod rows;
 
-pub use rows::put_case;
+pub use rows::Swept;

@@ -3,8 +3,7 @@ ghost use Rattle.std.specs.Prelude.{◌≡◌, cond, ◌*◌, length};
 ghost use Rattle.std.proofs.lemmas.List.Edits.{sets};
 ghost use Rattle.portions.specs.Stopping.{joined};
 ghost use Rattle.portions.specs.Cases.{to_list};
-ghost use Rattle.case_listing.specs.Listing.{row_for};
-ghost use Rattle.case_rows.specs.Rows.{loss_in, room_behind};
+ghost use Rattle.case_rows.specs.Rows.{loss_in, room_behind, row_in};
 
 use case_reasons::{CaseOutcome, ROW_LENGTH, put_row, reasons_for};
 use fault_cases::case_place;
@@ -13,32 +12,35 @@ use power_flow::DcGridSolution;
 
 const MOST_CABLES: u64 = 64;
 
-// Writes the row of case k behind `out` rows, if it has one and a whole row fits, and says how many that were.
-pub fn put_case(
-    rows: &mut [u64],
-    out: usize,
-    g: DcSwitchingSimulator,
-    order: SweepOrder,
-    flow: DcGridSolution,
-    k: u64,
-    outcome: CaseOutcome,
-) -> usize
-    ensures answer { result ≡ cond (room_behind out rows.old) (length (to_list (row_for g order flow k outcome))) 0 }
-    ensures memory { rows.new ≡ cond (room_behind out rows.old) (sets rows.old (8 * out) (joined (to_list (row_for g order flow k outcome)))) rows.old }
-{
-    if rows.len() / ROW_LENGTH <= out {
-        return 0;
+// What the row of a case is read from beside its outcome.
+#[derive(Clone, Copy)]
+pub struct Swept {
+    pub grid: DcSwitchingSimulator,
+    pub order: SweepOrder,
+    // The flow's results.
+    pub flow: DcGridSolution,
+}
+
+impl Swept {
+    // Writes the row of case k behind `out` rows, if it has one and a whole row fits, and says how many that were.
+    pub fn put_case(&self, rows: &mut [u64], out: usize, k: u64, outcome: CaseOutcome) -> usize
+        ensures answer { result ≡ cond (room_behind out rows.old) (length (to_list (row_in self.now k outcome))) 0 }
+        ensures memory { rows.new ≡ cond (room_behind out rows.old) (sets rows.old (8 * out) (joined (to_list (row_in self.now k outcome)))) rows.old }
+    {
+        if rows.len() / ROW_LENGTH <= out {
+            return 0;
+        }
+        let place = case_place(self.order, k);
+        let reasons = reasons_for(self.grid, place.cable, outcome);
+        put_row(
+            rows,
+            ROW_LENGTH * out,
+            place,
+            reasons,
+            outcome,
+            loss_of(self.flow, place.cable),
+        )
     }
-    let place = case_place(order, k);
-    let reasons = reasons_for(g, place.cable, outcome);
-    put_row(
-        rows,
-        ROW_LENGTH * out,
-        place,
-        reasons,
-        outcome,
-        loss_of(flow, place.cable),
-    )
 }
 
 // The flow's loss in a cable; zero past the last place.

@@ -7,7 +7,7 @@ use fault_plan::{FaultVariables, first_fault_variables, fresh_variables};
 use grid::DcSwitchingSimulator;
 use runs::blank_state;
 
-// A case after the last of its steps that is made.
+// A case after the last of its steps that is made: the fields of a kept sweep, of which a current of 0 is no missing one.
 #[derive(Clone, Copy)]
 pub struct OpenCase {
     // 000's variables. Their state is that of the last step.

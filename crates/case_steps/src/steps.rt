@@ -13,13 +13,11 @@ pub fn case_steps(plan: FaultPlan, first: u64, end: u64, start: OpenCase) -> Ope
     ensures { result ≡ plan_case_from plan first start (end - first) }
 {
     let mut c = start;
-    let mut step = first;
-    while step < end {
+    for step in first..end {
         if c.detected {
             return detected_steps(plan, step, end, c);
         }
         c = case_step(plan, step, c);
-        step += 1;
     }
     c
 }
@@ -31,12 +29,10 @@ fn detected_steps(plan: FaultPlan, first: u64, end: u64, start: OpenCase) -> Ope
 {
     let mut v = start.variables;
     let mut clearing_current_ka = start.clearing_current_ka;
-    let mut step = first;
-    while step < end {
+    for step in first..end {
         let cleared = v.fault_cleared;
         v = fault_step(plan, step, v);
         clearing_current_ka = clearing_current(cleared, v, clearing_current_ka);
-        step += 1;
     }
     OpenCase {
         variables: v,

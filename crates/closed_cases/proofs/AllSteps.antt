@@ -1,5 +1,5 @@
 -- What a call takes for a case that it closes is what all steps of the case lead to. Assumes nothing.
-use Prim.Native.Nat.{ℕ, zero, suc, ◌-◌, ◌≤◌}
+use Prim.Native.Nat.{ℕ, ◌-◌, ◌≤◌}
 use native.Mathlib.Omega.{arith}
 use mathlib.Core.Path.{◌≡◌, refl, sym, ap, ◌∙◌}
 use mathlib.Core.Bool.{Bool, true, false, not, ◌&&◌, cond}
@@ -7,10 +7,13 @@ use lib.Dec.{eqb, leb}
 use lib.ListN.{get_or}
 use borrow.Author.Tests.{eqb-true, leb-true, lt-ltb}
 use mathlib.Core.List.{List}
+use Rattle.std.specs.Prelude.{Option, Some, None}
 use Rattle.lists.specs.Tables.{tab, blank, padded}
 use Rattle.lists.proofs.Counting.{by-test}
 use Rattle.lists.proofs.Scanning.{left, right}
 use Rattle.lists.proofs.Fills.{upto, upto_padded, tab_same, get_d_tab}
+use Rattle.grid.specs.declared.parts.DcFaultType.{DcFaultType}
+use Rattle.grid.specs.declared.parts.DcFaultType.TheVariants.{PoleToGround, PoleToPole, ConverterInternal}
 use Rattle.grid.specs.declared.parts.SweepOrder.{SweepOrder}
 use Rattle.grid.specs.declared.simulator.DcSwitchingSimulator.{DcSwitchingSimulator}
 use Rattle.timing.specs.Steps.{steps_of}
@@ -25,7 +28,7 @@ use Rattle.fault_plan.specs.declared.plan.FaultPlan.{FaultPlan}
 use Rattle.fault_plan.specs.Fault.{before_loop}
 use Rattle.fault_plan.specs.Plans.{constants_of, plan_of}
 use Rattle.fault_cases.specs.declared.cases.CasePlace.{CasePlace}
-use Rattle.fault_cases.specs.Cases.{place_of, fault_type, fault_in, fault_of}
+use Rattle.fault_cases.specs.Cases.{place_of, fault_in, fault_of}
 use Rattle.case_reasons.specs.declared.reasons.CaseOutcome.{CaseOutcome}
 use Rattle.case_steps.specs.declared.open_case.OpenCase.{OpenCase}
 use Rattle.case_steps.specs.OpenCases.{start_case, outcome_in, case_from}
@@ -41,12 +44,6 @@ use Rattle.closed_cases.specs.Cables.{window_in, end_for, blank_site, tried, sit
 
 -- ---- for the code
 
--- a type that is neither the first nor the second is the third
-pub internal_else : (s : SiteEnds) (n : ℕ) → ((Unit {0} × (n ≡ 0 → ⊥)) × (n ≡ 1 → ⊥)) → s.internal ≡ in_site s n
-internal_else s zero h = absurd (h.0.1 refl)
-internal_else s (suc zero) h = absurd (h.1 refl)
-internal_else s (suc (suc n)) h = refl
-
 -- a tenth that is tried is one up to the tenth
 pub few_tried : (a b : Bool) (o : SweepOrder) (tenth : ℕ) → b ≡ tried o tenth → (a && b) ≡ true → tenth ≤ 10
 few_tried a b o tenth e h = leb-true tenth 10 (right (leb o.low_tenth tenth && leb tenth o.high_tenth) (leb tenth 10) (sym e ∙ right a b h))
@@ -57,41 +54,47 @@ module _ (x : Common) (ends : CableEnds) (fresh : Bool) (k made : ℕ) (c : Open
   looked_up place = in_site (get_or ends.sites place.tenth blank_site) place.fault_type
 
   abbrev closed_at : CasePlace → CaseOutcome
-  closed_at place = cond (fresh && ends.held && eqb ends.cable place.cable && tried x.order place.tenth) (looked_up place) (end_for x place made c)
+  closed_at place = cond (fresh && eqb ends.cable place.cable && tried x.order place.tenth) (looked_up place) (end_for x place made c)
 
-  is_at : closed_by x ends fresh k made c ≡ closed_at (place_of x.order k)
+  is_at : closed_by x (Some ends) fresh k made c ≡ closed_at (place_of x.order k)
   unfolding closed_by
   is_at = refl
 
   module _ (place : CasePlace) (is-place : place ≡ place_of x.order k) (t : Bool) (is-t : t ≡ tried x.order place.tenth) (r : CaseOutcome) where
-    by : (b : Bool) → (fresh && ends.held && eqb ends.cable place.cable && t) ≡ b → cond b (looked_up place) (end_for x place made c) ≡ closed_by x ends fresh k made c
+    by : (b : Bool) → (fresh && eqb ends.cable place.cable && t) ≡ b → cond b (looked_up place) (end_for x place made c) ≡ closed_by x (Some ends) fresh k made c
     by b h =
-        ap (λ (z : Bool). cond z (looked_up place) (end_for x place made c)) (sym h ∙ ap (λ (z : Bool). fresh && ends.held && eqb ends.cable place.cable && z) is-t)
+        ap (λ (z : Bool). cond z (looked_up place) (end_for x place made c)) (sym h ∙ ap (λ (z : Bool). fresh && eqb ends.cable place.cable && z) is-t)
         ∙ ap closed_at is-place
         ∙ sym is_at
 
-    pub takes_held : (fresh && ends.held && eqb ends.cable place.cable && t) ≡ true → r ≡ looked_up place → r ≡ closed_by x ends fresh k made c
+    pub takes_held : (fresh && eqb ends.cable place.cable && t) ≡ true → r ≡ looked_up place → r ≡ closed_by x (Some ends) fresh k made c
     takes_held h e = e ∙ by true h
 
-    pub takes_own : (fresh && ends.held && eqb ends.cable place.cable && t) ≡ false → r ≡ end_for x place made c → r ≡ closed_by x ends fresh k made c
+    pub takes_own : (fresh && eqb ends.cable place.cable && t) ≡ false → r ≡ end_for x place made c → r ≡ closed_by x (Some ends) fresh k made c
     takes_own h e = e ∙ by false h
 
+-- and where no cable is held
+module _ (x : Common) (fresh : Bool) (k made : ℕ) (c : OpenCase) where
+  pub takes_own_alone : (place : CasePlace) → place ≡ place_of x.order k → (r : CaseOutcome) → r ≡ end_for x place made c → r ≡ closed_by x None fresh k made c
+  unfolding closed_by
+  takes_own_alone place is-place r e = e ∙ ap (λ (q : CasePlace). end_for x q made c) is-place
+
 -- what it holds
-module _ (x : Common) (before : CableEnds) (k allowed room : ℕ) (place : CasePlace) (is-place : place ≡ place_of x.order k) (t : Bool) (is-t : t ≡ whole_cable x.order place x.n_steps allowed room) where
-  abbrev held_at : CasePlace → CableEnds
-  held_at q = cond (whole_cable x.order q x.n_steps allowed room) (cable_of x q.cable) before
+module _ (x : Common) (before : Option CableEnds) (k allowed room : ℕ) (place : CasePlace) (is-place : place ≡ place_of x.order k) (t : Bool) (is-t : t ≡ whole_cable x.order place x.n_steps allowed room) where
+  abbrev held_at : CasePlace → Option CableEnds
+  held_at q = cond (whole_cable x.order q x.n_steps allowed room) (Some (cable_of x q.cable)) before
 
-  held_by : (b : Bool) → t ≡ b → cond b (cable_of x place.cable) before ≡ held_for x before k allowed room
-  held_by b h = ap (λ (z : Bool). cond z (cable_of x place.cable) before) (sym h ∙ is-t) ∙ ap held_at is-place
+  held_by : (b : Bool) → t ≡ b → cond b (Some (cable_of x place.cable)) before ≡ held_for x before k allowed room
+  held_by b h = ap (λ (z : Bool). cond z (Some (cable_of x place.cable)) before) (sym h ∙ is-t) ∙ ap held_at is-place
 
-  pub holds : t ≡ true → (r : CableEnds) → r ≡ cable_of x place.cable → r ≡ held_for x before k allowed room
-  holds h r e = e ∙ held_by true h
+  pub holds : t ≡ true → (r : CableEnds) → r ≡ cable_of x place.cable → Some r ≡ held_for x before k allowed room
+  holds h r e = ap Some e ∙ held_by true h
 
   pub holds_on : t ≡ false → before ≡ held_for x before k allowed room
   holds_on h = held_by false h
 
 abbrev pub cable_with : (cable : ℕ) → List SiteEnds → CableEnds
-cable_with cable sites = record { held = true; cable = cable; sites = sites }
+cable_with cable sites = record { cable = cable; sites = sites }
 
 pub all_sites : (f : ℕ → SiteEnds) → upto 11 f (blank 11 blank_site) ≡ tab 11 f
 unfolding padded
@@ -102,13 +105,14 @@ module _ (g : DcSwitchingSimulator) (o : SweepOrder) where
   x = common_of g o true
 
   -- what is held is what the cable's cases lead to
-  abbrev pub Holding : CableEnds → Type 0
-  Holding ends = ends.held ≡ true → ends ≡ cable_of x ends.cable
+  abbrev pub Holding : Option CableEnds → Type 0
+  Holding None = Unit {0}
+  Holding (Some ends) = ends ≡ cable_of x ends.cable
 
-  pub still_holding : (ends : CableEnds) (k allowed room : ℕ) → Holding ends → Holding (held_for x ends k allowed room)
+  pub still_holding : (ends : Option CableEnds) (k allowed room : ℕ) → Holding ends → Holding (held_for x ends k allowed room)
   still_holding ends k allowed room h =
       by-test (whole_cable x.order (place_of x.order k) x.n_steps allowed room)
-      (λ e. rw e (λ z. refl))
+      (λ e. rw e refl)
       (λ e. rw e h)
 
   -- ---- a case from what is kept of it
@@ -133,49 +137,49 @@ module _ (g : DcSwitchingSimulator) (o : SweepOrder) where
 
   -- ---- a case of a cable that is held
 
-  type_is : (cable type tenth : ℕ) → of_type (plan_at x (record { cable = cable; fault_type = 0; tenth = tenth })) (fault_type type) ≡ plan_at x (record { cable = cable; fault_type = type; tenth = tenth })
+  type_is : (cable : ℕ) (type : DcFaultType) (tenth : ℕ) → of_type (plan_at x (record { cable = cable; fault_type = PoleToGround; tenth = tenth })) type ≡ plan_at x (record { cable = cable; fault_type = type; tenth = tenth })
   unfolding constants_of fault_in circuit_at drain_of parameters_at
   type_is cable type tenth = refl
 
-  in_site_is : (p : FaultPlan) (c : OpenCase) (type : ℕ) → in_site (site_of p x.window c) type ≡ end_by (of_type p (fault_type type)) 0 x.window c
+  in_site_is : (p : FaultPlan) (c : OpenCase) (type : DcFaultType) → in_site (site_of p x.window c) type ≡ end_by (of_type p type) 0 x.window c
   unfolding site_of
-  in_site_is p c zero = refl
-  in_site_is p c (suc zero) = refl
-  in_site_is p c (suc (suc n)) = refl
+  in_site_is p c PoleToGround = refl
+  in_site_is p c PoleToPole = refl
+  in_site_is p c ConverterInternal = refl
 
   -- of a type at a tenth that is tried
-  held_is : (cable type tenth : ℕ) → tried o tenth ≡ true → in_site (site_at x cable tenth) type ≡ end_for x (record { cable = cable; fault_type = type; tenth = tenth }) 0 (start_case g)
+  held_is : (cable : ℕ) (type : DcFaultType) (tenth : ℕ) → tried o tenth ≡ true → in_site (site_at x cable tenth) type ≡ end_for x (record { cable = cable; fault_type = type; tenth = tenth }) 0 (start_case g)
   unfolding site_at common_of before_loop
   held_is cable type tenth e =
       rw e
-      (in_site_is (plan_at x (record { cable = cable; fault_type = 0; tenth = tenth })) (start_case g) type
+      (in_site_is (plan_at x (record { cable = cable; fault_type = PoleToGround; tenth = tenth })) (start_case g) type
       ∙ ap (λ (p : FaultPlan). end_by p 0 x.window (start_case g)) (type_is cable type tenth))
 
   -- ---- what a call takes
 
-  module _ (k made : ℕ) (c : OpenCase) (fresh : Bool) (ends : CableEnds) (h : Holding ends) (f : fresh ≡ true → (made ≡ 0) × (c ≡ start_case g)) where
+  module _ (k made : ℕ) (c : OpenCase) (fresh : Bool) (f : fresh ≡ true → (made ≡ 0) × (c ≡ start_case g)) where
     abbrev place : CasePlace
     place = place_of o k
 
-    looked_up_lem : (fresh && ends.held && eqb ends.cable place.cable && tried o place.tenth) ≡ true
+    looked_up_lem : (ends : CableEnds) → ends ≡ cable_of x ends.cable → (fresh && eqb ends.cable place.cable && tried o place.tenth) ≡ true
         → in_site (get_or ends.sites place.tenth blank_site) place.fault_type ≡ end_for x place made c
-    looked_up_lem e =
-        let a = left (fresh && ends.held && eqb ends.cable place.cable) (tried o place.tenth) e in
-        let in_order = right (fresh && ends.held && eqb ends.cable place.cable) (tried o place.tenth) e in
-        let b = left (fresh && ends.held) (eqb ends.cable place.cable) a in
-        let same = eqb-true ends.cable place.cable (right (fresh && ends.held) (eqb ends.cable place.cable) a) in
-        let is-fresh = f (left fresh ends.held b) in
+    looked_up_lem ends h e =
+        let a = left (fresh && eqb ends.cable place.cable) (tried o place.tenth) e in
+        let in_order = right (fresh && eqb ends.cable place.cable) (tried o place.tenth) e in
+        let same = eqb-true ends.cable place.cable (right fresh (eqb ends.cable place.cable) a) in
+        let is-fresh = f (left fresh (eqb ends.cable place.cable) a) in
         let few = leb-true place.tenth 10 (right (leb o.low_tenth place.tenth && leb place.tenth o.high_tenth) (leb place.tenth 10) in_order) in
-        let sites : ends.sites ≡ tab 11 (site_at x place.cable) = ap (λ (y : CableEnds). y.sites) (h (right fresh ends.held b)) ∙ ap (λ (n : ℕ). tab 11 (site_at x n)) same in
+        let sites : ends.sites ≡ tab 11 (site_at x place.cable) = ap (λ (y : CableEnds). y.sites) h ∙ ap (λ (n : ℕ). tab 11 (site_at x n)) same in
         rw (sites, is-fresh.0, is-fresh.1)
         (ap (λ (y : SiteEnds). in_site y place.fault_type) (get_d_tab 11 (site_at x place.cable) blank_site place.tenth (omega arith))
         ∙ held_is place.cable place.fault_type place.tenth in_order)
 
-    taken : closed_by x ends fresh k made c ≡ end_for x place made c
+    taken : (ends : Option CableEnds) → Holding ends → closed_by x ends fresh k made c ≡ end_for x place made c
     unfolding closed_by common_of
-    taken =
-        by-test (fresh && ends.held && eqb ends.cable place.cable && tried o place.tenth)
-        (λ e. rw e (looked_up_lem e))
+    taken None h = refl
+    taken (Some ends) h =
+        by-test (fresh && eqb ends.cable place.cable && tried o place.tenth)
+        (λ e. rw e (looked_up_lem ends h e))
         (λ e. rw e)
 
   module _ (accepted : sweep_refusal g o ≡ 0) where
@@ -187,8 +191,8 @@ module _ (g : DcSwitchingSimulator) (o : SweepOrder) where
     unfolding plan_of common_of
     by_plan k first c n = let z = size_claims.sweep g o accepted in case_claims.by_plan g (fault_of o k) z.stations z.cables first c n
 
-    pub closed_is : (k made : ℕ) (c : OpenCase) (fresh : Bool) (ends : CableEnds) → Holding ends → (fresh ≡ true → (made ≡ 0) × (c ≡ start_case g))
+    pub closed_is : (k made : ℕ) (c : OpenCase) (fresh : Bool) (ends : Option CableEnds) → Holding ends → (fresh ≡ true → (made ≡ 0) × (c ≡ start_case g))
         → closed_by x ends fresh k made c ≡ outcome_in (case_from g (fault_of o k) made c (steps_of g - made))
     unfolding common_of
     closed_is k made c fresh ends h f =
-        taken k made c fresh ends h f ∙ end_is (place_of o k) made c ∙ rw (n_is) (ap outcome_in (by_plan k made c (steps_of g - made)))
+        taken k made c fresh f ends h ∙ end_is (place_of o k) made c ∙ rw (n_is) (ap outcome_in (by_plan k made c (steps_of g - made)))

@@ -2,8 +2,10 @@
 use Prim.Native.Nat.{ℕ, ◌+◌, ◌*◌}
 use mathlib.Core.Path.{◌≡◌, refl}
 use mathlib.Core.Bool.{Bool, true, false}
+use Rattle.std.specs.Prelude.{Option, Some, None}
 use Rattle.lists.specs.Tables.{tab}
 use Rattle.float64.specs.Constants.{nought, decimal}
+use Rattle.grid.specs.declared.parts.DcFaultType.TheVariants.{PoleToGround, PoleToPole, ConverterInternal}
 use Rattle.grid.specs.declared.parts.SweepOrder.{SweepOrder}
 use Rattle.grid.specs.declared.simulator.DcSwitchingSimulator.{DcSwitchingSimulator}
 use Rattle.fault_plan.specs.declared.plan.FaultConstants.{FaultConstants}
@@ -29,25 +31,25 @@ site : ℕ → SiteEnds
 site tenth = record { to_ground = peak (10 * tenth); pole = peak (10 * tenth + 1); internal = peak (10 * tenth + 2) }
 
 -- of the second cable
-second : Bool → CableEnds
-second held = record { held = held; cable = 1; sites = tab 11 site }
+second : Option CableEnds
+second = Some (record { cable = 1; sites = tab 11 site })
 
 module _ (g : DcSwitchingSimulator) (closes : Bool) (made : ℕ) (c : OpenCase) where
   -- the first case on that cable, a fault from pole to pole and one inside the converter at tenth 5, and the last
   looked_up_lem
-      : (closed_by (common_of g order closes) (second true) true 15 made c ≡ peak 20)
-      × (closed_by (common_of g order closes) (second true) true 23 made c ≡ peak 51)
-      × (closed_by (common_of g order closes) (second true) true 28 made c ≡ peak 52)
-      × (closed_by (common_of g order closes) (second true) true 29 made c ≡ peak 62)
+      : (closed_by (common_of g order closes) second true 15 made c ≡ peak 20)
+      × (closed_by (common_of g order closes) second true 23 made c ≡ peak 51)
+      × (closed_by (common_of g order closes) second true 28 made c ≡ peak 52)
+      × (closed_by (common_of g order closes) second true 29 made c ≡ peak 62)
   unfolding closed_by common_of order peak site second tab
   looked_up_lem = (refl, refl, refl, refl)
 
   -- the last case of the cable before, the first of the one after, a case that is not fresh, and one where nothing is held
   worked-out
-      : (closed_by (common_of g order closes) (second true) true 14 made c ≡ end_for (common_of g order closes) (record { cable = 0; fault_type = 2; tenth = 6 }) made c)
-      × (closed_by (common_of g order closes) (second true) true 30 made c ≡ end_for (common_of g order closes) (record { cable = 2; fault_type = 0; tenth = 2 }) made c)
-      × (closed_by (common_of g order closes) (second true) false 23 made c ≡ end_for (common_of g order closes) (record { cable = 1; fault_type = 1; tenth = 5 }) made c)
-      × (closed_by (common_of g order closes) (second false) true 23 made c ≡ end_for (common_of g order closes) (record { cable = 1; fault_type = 1; tenth = 5 }) made c)
+      : (closed_by (common_of g order closes) second true 14 made c ≡ end_for (common_of g order closes) (record { cable = 0; fault_type = ConverterInternal; tenth = 6 }) made c)
+      × (closed_by (common_of g order closes) second true 30 made c ≡ end_for (common_of g order closes) (record { cable = 2; fault_type = PoleToGround; tenth = 2 }) made c)
+      × (closed_by (common_of g order closes) second false 23 made c ≡ end_for (common_of g order closes) (record { cable = 1; fault_type = PoleToPole; tenth = 5 }) made c)
+      × (closed_by (common_of g order closes) None true 23 made c ≡ end_for (common_of g order closes) (record { cable = 1; fault_type = PoleToPole; tenth = 5 }) made c)
   unfolding closed_by common_of order second
   worked-out = (refl, refl, refl, refl)
 

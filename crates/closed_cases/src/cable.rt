@@ -5,7 +5,7 @@ ghost use Rattle.closed_cases.specs.Cables.{blank_site, tried, site_at, no_cable
 use case_ends::{SiteEnds, site_ends};
 use case_reasons::CaseOutcome;
 use fault_cases::{CasePlace, case_place, tenth_count};
-use grid::SweepOrder;
+use grid::{DcFaultType, SweepOrder};
 use sweep_cases::{Common, plan_at};
 
 // Pole to ground, pole to pole, internal.
@@ -13,25 +13,32 @@ const FAULT_TYPES: u64 = 3;
 
 const MOST_TENTHS: u64 = 10;
 
+// Tenths 0 to 10.
+const PLACES: usize = 11;
+
 // The outcomes of a cable's cases, held within a call.
 #[derive(Clone, Copy)]
 pub struct CableEnds {
-    // Whether there are any.
-    pub held: bool,
     // The cable's position.
     pub cable: u64,
     // By the tenth; all zero and false at a tenth that the order does not try.
-    pub sites: [SiteEnds; 11],
+    pub sites: [SiteEnds; PLACES],
 }
 
 // What a call holds before it closes case k: the cable of that case, if it closes all cases of it, and else what it held before.
-pub fn ends_held(common: Common, before: CableEnds, k: u64, allowed: u64, room: usize) -> CableEnds
+pub fn ends_held(
+    common: Common,
+    before: Option<CableEnds>,
+    k: u64,
+    allowed: u64,
+    room: usize,
+) -> Option<CableEnds>
     ensures { result ≡ held_for common before k allowed room }
 {
     let order = common.order;
     let place = case_place(order, k);
     if closes_cable(order, place, common.n_steps, allowed, room) {
-        return cable_ends(common, place.cable);
+        return Some(cable_ends(common, place.cable));
     }
     before
 }
@@ -47,36 +54,27 @@ fn closes_cable(
     ensures { result ≡ whole_cable order place n_steps allowed room }
 {
     let cases = FAULT_TYPES * tenth_count(order);
-    let first = (place.fault_type == 0) & (place.tenth == order.low_tenth);
-    first & (n_steps <= allowed / cases) & (cases <= room as u64)
+    let is_ground = matches!(place.fault_type, DcFaultType::PoleToGround);
+    let is_first = is_ground & (place.tenth == order.low_tenth);
+    is_first & (n_steps <= allowed / cases) & (cases <= room as u64)
 }
 
 // What a call holds at first: no cable.
-pub fn no_cable_ends() -> CableEnds
+pub fn no_cable_ends() -> Option<CableEnds>
     ensures { result ≡ no_cable }
 {
-    CableEnds {
-        held: false,
-        cable: 0,
-        sites: [blank_site(); 11],
-    }
+    None
 }
 
 // The outcomes of all cases of a cable, from their first step to their end.
 fn cable_ends(common: Common, cable: u64) -> CableEnds
     ensures { result ≡ cable_of common cable }
 {
-    let mut sites = [blank_site(); 11];
-    let mut tenth: usize = 0;
-    while tenth < 11 {
+    let mut sites = [blank_site(); PLACES];
+    for tenth in 0..PLACES {
         sites[tenth] = site_at(common, cable, tenth as u64);
-        tenth += 1;
     }
-    CableEnds {
-        held: true,
-        cable,
-        sites,
-    }
+    CableEnds { cable, sites }
 }
 
 // The outcomes at a tenth; all zero and false where the order does not try it.
@@ -89,7 +87,7 @@ fn site_at(common: Common, cable: u64, tenth: u64) -> SiteEnds
         let window = common.window;
         let place = CasePlace {
             cable,
-            fault_type: 0,
+            fault_type: DcFaultType::PoleToGround,
             tenth,
         };
         return site_ends(g, plan_at(common, place), window);

@@ -9,13 +9,14 @@ use case_steps::OpenCase;
 use fault_cases::{CasePlace, case_place};
 use fault_plan::FaultConstants;
 use fault_window::{Window, fault_window};
+use grid::DcFaultType;
 use sweep_cases::{Common, plan_at};
 
 // The outcome of case k, of which `made` steps are made and `c` is kept. A case that is fresh, none of whose steps is made, is looked up where its
 // cable is held.
 pub fn closed_outcome(
     common: Common,
-    ends: CableEnds,
+    ends: Option<CableEnds>,
     fresh: bool,
     k: u64,
     made: u64,
@@ -25,26 +26,24 @@ pub fn closed_outcome(
 {
     let order = common.order;
     let place = case_place(order, k);
-    if fresh & ends.held & (ends.cable == place.cable) & is_tried(order, place.tenth) {
-        let sites = ends.sites;
-        let tenth = place.tenth as usize;
-        let site = sites[tenth];
-        return in_site(site, place.fault_type);
+    if let Some(held) = ends {
+        if fresh & (held.cable == place.cable) & is_tried(order, place.tenth) {
+            let sites = held.sites;
+            let tenth = place.tenth as usize;
+            return in_site(sites[tenth], place.fault_type);
+        }
     }
     end_for(common, place, made, c)
 }
 
-// The outcome of a type of fault at a place.
-fn in_site(site: SiteEnds, fault_type: u64) -> CaseOutcome
+// The outcome of a type of fault at a place: a field for each, which no conversion says.
+fn in_site(site: SiteEnds, fault_type: DcFaultType) -> CaseOutcome
     ensures { result ≡ in_site site fault_type }
 {
-    let ground = site.to_ground;
-    let pole = site.pole;
-    let internal = site.internal;
     match fault_type {
-        0 => ground,
-        1 => pole,
-        _ => internal,
+        DcFaultType::PoleToGround => site.to_ground,
+        DcFaultType::PoleToPole => site.pole,
+        DcFaultType::ConverterInternal => site.internal,
     }
 }
 

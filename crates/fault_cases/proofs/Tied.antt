@@ -10,6 +10,8 @@ use Rattle.fault_cases.specs.contracts.cases.fault_at as fault-at-contract
 use Rattle.fault_cases.proofs.cases.fault_at.Reads as fault-at-reads
 use Rattle.fault_cases.specs.contracts.cases.tenth_count as tenth-count-contract
 use Rattle.fault_cases.proofs.cases.tenth_count.Reads as tenth-count-reads
+use Rattle.fault_cases.specs.contracts.cases.type_number as type-number-contract
+use Rattle.fault_cases.proofs.cases.type_number.Reads as type-number-reads
 
 module _ (κs : Lfts 0) where
   pub case_count_any : (a : ArgsD case-count-contract.signature κs) → case-count-reads.Asked κs a
@@ -23,3 +25,6 @@ module _ (κs : Lfts 0) where
 
   pub tenth_count_any : (a : ArgsD tenth-count-contract.signature κs) → tenth-count-reads.Asked κs a
   tenth_count_any a = tt
+
+  pub type_number_any : (a : ArgsD type-number-contract.signature κs) → type-number-reads.Asked κs a
+  type_number_any a = tt

@@ -25,14 +25,22 @@ types = 3
 abbrev pub cases_of : DcSwitchingSimulator → SweepOrder → ℕ
 cases_of g o = length (cables_of g) * (types * tenths_of o)
 
--- the case of a number: the tenth moves first, then the type, then the cable
-abbrev pub place_of : SweepOrder → ℕ → CasePlace
-place_of o k = record { cable = k / (types * tenths_of o); fault_type = k / tenths_of o % types; tenth = o.low_tenth + k % tenths_of o }
-
+-- the type of a number
 abbrev pub fault_type : ℕ → DcFaultType
 fault_type zero = PoleToGround
 fault_type (suc zero) = PoleToPole
 fault_type (suc (suc n)) = ConverterInternal
+
+-- the number of a type: "0 pole to ground, 1 pole to pole, 2 internal"
+abbrev pub type_number : DcFaultType → ℕ
+type_number PoleToGround = 0
+type_number PoleToPole = 1
+type_number ConverterInternal = 2
+
+-- the case of a number: the tenth moves first, then the type, then the cable
+abbrev pub place_of : SweepOrder → ℕ → CasePlace
+place_of o k =
+    record { cable = k / (types * tenths_of o); fault_type = fault_type (k / tenths_of o % types); tenth = o.low_tenth + k % tenths_of o }
 
 abbrev pub ten : Float
 ten = of_bits binary64 0x4024_0000_0000_0000
@@ -45,7 +53,7 @@ ten_is = refl
 unfoldable pub fault_in : SweepOrder → CasePlace → DcFaultEvent
 fault_in o p =
     record {
-      fault_type = fault_type p.fault_type;
+      fault_type = p.fault_type;
       location_cable_id = p.cable;
       location_fraction = of_int binary64 (pos p.tenth) ⊘ ten;
       fault_resistance = o.fault_resistance;

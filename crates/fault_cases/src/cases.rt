@@ -1,6 +1,6 @@
 // The cases of a sweep, by number: cable ascending, then fault type, then tenth of the cable ascending.
 ghost use Rattle.std.specs.Prelude.{◌≡◌};
-ghost use Rattle.fault_cases.specs.Cases.{tenths_of, cases_of, place_of, fault_type, fault_in};
+ghost use Rattle.fault_cases.specs.Cases.{tenths_of, cases_of, place_of, fault_type, type_number, fault_in};
 
 use grid::{DcFaultEvent, DcFaultType, DcSwitchingSimulator, MOST_CABLES, SweepOrder, present};
 use std::num::nearest_u64_to_f64;
@@ -15,8 +15,7 @@ const MOST_TENTHS: u64 = 10;
 pub struct CasePlace {
     // The cable's position.
     pub cable: u64,
-    // 0 pole to ground, 1 pole to pole, 2 internal.
-    pub fault_type: u64,
+    pub fault_type: DcFaultType,
     // Tenths of the cable from its first end.
     pub tenth: u64,
 }
@@ -47,10 +46,12 @@ pub fn case_place(o: SweepOrder, number: u64) -> CasePlace
     ensures { result ≡ place_of o number }
 {
     let tenths = tenth_count(o);
+    let of_type = number / tenths % FAULT_TYPES;
+    let tenth = o.low_tenth + number % tenths;
     CasePlace {
         cable: number / (FAULT_TYPES * tenths),
-        fault_type: number / tenths % FAULT_TYPES,
-        tenth: o.low_tenth + number % tenths,
+        fault_type: type_of(of_type),
+        tenth,
     }
 }
 
@@ -59,7 +60,7 @@ pub fn fault_at(o: SweepOrder, place: CasePlace) -> DcFaultEvent
     ensures { result ≡ fault_in o place }
 {
     DcFaultEvent {
-        fault_type: type_of(place.fault_type),
+        fault_type: place.fault_type,
         location_cable_id: place.cable,
         location_fraction: nearest_u64_to_f64(place.tenth) / 10.0,
         fault_resistance: o.fault_resistance,
@@ -67,6 +68,19 @@ pub fn fault_at(o: SweepOrder, place: CasePlace) -> DcFaultEvent
     }
 }
 
+// The number of a type in the order of the cases and in a row: 0 pole to ground, 1 pole to pole, 2 internal. A function and no From, since
+// definitions call it by its name.
+pub fn type_number(fault_type: DcFaultType) -> u64
+    ensures { result ≡ type_number fault_type }
+{
+    match fault_type {
+        DcFaultType::PoleToGround => 0,
+        DcFaultType::PoleToPole => 1,
+        DcFaultType::ConverterInternal => 2,
+    }
+}
+
+// The type of a number; internal for every number past the last, so that no number fails to convert.
 fn type_of(number: u64) -> DcFaultType
     ensures { result ≡ fault_type number }
 {

@@ -3,4 +3,4 @@
 
 mod cases;
 
-pub use cases::{CasePlace, case_count, case_place, fault_at, tenth_count};
+pub use cases::{CasePlace, case_count, case_place, fault_at, tenth_count, type_number};

@@ -37,6 +37,7 @@ use Rattle.case_steps.specs.Plans.{plan_case_from}
 use Rattle.case_claims.proofs.Claims.{case_claims}
 use Rattle.case_reasons.specs.declared.reasons.CaseOutcome.{CaseOutcome}
 use Rattle.sweep_cases.specs.declared.cases.Common.{Common}
+use Rattle.std.specs.Prelude as std
 use Rattle.closed_cases.specs.declared.cable.CableEnds.{CableEnds}
 use Rattle.closed_cases.specs.Cables.{no_cable, held_for, closed_by}
 use Rattle.closed_cases.proofs.AllSteps.{Holding, still_holding, closed_is}
@@ -71,7 +72,7 @@ module _ (g : DcSwitchingSimulator) (o : SweepOrder) (flow : DcGridSolution) whe
       (λ t. rw t))
 
   -- what the loop knows: what was worked out before it, and the call so far
-  pub record Inside (s₀ : Sweep) (allowance : ℕ) (lent₀ : List ℕ) (n cases space : ℕ) (closing : Bool) (common : Common) (lent : List ℕ) (k made : ℕ) (c : OpenCase) (fresh : Bool) (ends : CableEnds) (steps out : ℕ) : Type 0 where
+  pub record Inside (s₀ : Sweep) (allowance : ℕ) (lent₀ : List ℕ) (n cases space : ℕ) (closing : Bool) (common : Common) (lent : List ℕ) (k made : ℕ) (c : OpenCase) (fresh : Bool) (ends : std.Option CableEnds) (steps out : ℕ) : Type 0 where
     pub accepted : sweep_refusal g o ≡ 0
     pub n_is : n ≡ steps_of g
     pub few : n ≤ most_steps
@@ -85,11 +86,13 @@ module _ (g : DcSwitchingSimulator) (o : SweepOrder) (flow : DcGridSolution) whe
     pub ends_are : Holding g o ends
     pub fresh_is : fresh ≡ true → k < cases → (made ≡ 0) × (c ≡ start_case g)
 
-  module _ {s₀ : Sweep} {allowance : ℕ} {lent₀ : List ℕ} {n cases space : ℕ} {closing : Bool} {common : Common} {lent : List ℕ} {k made : ℕ} {c : OpenCase} {fresh : Bool} {ends : CableEnds} {steps out : ℕ}
+  module _ {s₀ : Sweep} {allowance : ℕ} {lent₀ : List ℕ} {n cases space : ℕ} {closing : Bool} {common : Common} {lent : List ℕ} {k made : ℕ} {c : OpenCase} {fresh : Bool} {ends : std.Option CableEnds} {steps out : ℕ}
       (i : Inside s₀ allowance lent₀ n cases space closing common lent k made c fresh ends steps out) where
     -- no case is left
-    pub finishes : cases ≤ k → Came sweep_stepper s₀ allowance lent₀ steps out Finished (kept_at g o flow k made c) lent
-    finishes l = came_finished sweep_stepper i.going (eq-eqb k (cases_of g o) (omega (arith, i.number_ok, i.cases_are)))
+    pub finishes : cases ≤ k → Came sweep_stepper s₀ allowance lent₀ steps out Finished (kept_at g o flow cases made c) lent
+    finishes l =
+        let last : cases ≡ k = omega (arith, i.number_ok) in
+        rw last (came_finished sweep_stepper i.going (eq-eqb k (cases_of g o) (omega (arith, i.number_ok, i.cases_are))))
 
     -- the steps by the plan are the case's
     by_plan : (m : ℕ) (c' : OpenCase) → c' ≡ plan_case_from (plan_for common k) made c m → c' ≡ case_from g (fault_of o k) made c m
@@ -134,7 +137,7 @@ module _ (g : DcSwitchingSimulator) (o : SweepOrder) (flow : DcGridSolution) whe
             let r = rw i.space_is at in_space in
             omega (arith, one_at_most (row_for g o flow k x), div-le_self (length lent₀) 8)
 
-        pub closes : (ends' : CableEnds) → ends' ≡ held_for common ends k (allowance - steps) (space - out)
+        pub closes : (ends' : std.Option CableEnds) → ends' ≡ held_for common ends k (allowance - steps) (space - out)
             → (x : CaseOutcome) → x ≡ closed_by common ends' fresh k made c
             → (w : ℕ) → w ≡ length (to_list (row_for g o flow k x))
             → (lent' : List ℕ) → lent' ≡ sets lent (8 * out) (joined (to_list (row_for g o flow k x)))
@@ -216,6 +219,6 @@ module _ (s : Sweep) (h : sweep_broken s ≡ false) where
         going = going_start sweep_stepper s allowance lent₀ h;
         number_ok = rw are-cases let_through.1;
         made_ok = rw e let_through.2;
-        ends_are = λ h. contrary h refl;
+        ends_are = tt;
         fresh_is = λ h. contrary h refl;
       }

@@ -5,7 +5,7 @@ ghost use Rattle.fault_sweep.specs.Advance.{sweep_broken, sweep_stepper, advance
 
 use crate::sweep::{AdvancedSweep, Sweep};
 use case_reasons::ROW_LENGTH;
-use case_rows::put_case;
+use case_rows::Swept;
 use closed_cases::{closed_outcome, ends_held, no_cable_ends};
 use fault_cases::case_count;
 use portions::{Stop, reason};
@@ -30,14 +30,17 @@ impl Sweep {
         }
         let g = self.grid;
         let order = self.order;
-        let flow = self.flow;
+        let swept = Swept {
+            grid: g,
+            order,
+            flow: self.flow,
+        };
         let n = total_steps(g);
         let cases = case_count(g, order);
         let space = rows.len() / ROW_LENGTH;
         // A call that does not reach the end of the open case closes none.
         let closes = n - self.steps_made <= allowance;
         let common = common_of(g, order, closes);
-        let mut k = self.case_number;
         let mut made = self.steps_made;
         let mut c = self.open_case;
         // The case that is open was opened by this call, and none of its steps is made.
@@ -45,18 +48,17 @@ impl Sweep {
         let mut ends = no_cable_ends();
         let mut steps: u64 = 0;
         let mut out: usize = 0;
-        while k < cases {
+        for k in self.case_number..cases {
             let left = n - made;
             let allowed = allowance - steps;
             // Known before its steps are made: the call closes the case, or leaves it open.
             if (left <= allowed) & (out < space) {
                 ends = ends_held(common, ends, k, allowed, space - out);
                 let outcome = closed_outcome(common, ends, fresh, k, made, c);
-                out += put_case(rows, out, g, order, flow, k, outcome);
+                out += swept.put_case(rows, out, k, outcome);
                 steps += left;
-                k += 1;
                 made = 0;
-                c = open_case(g, k == cases);
+                c = open_case(g, k + 1 == cases);
                 fresh = true;
             } else {
                 let count = steps_left_open(left, allowed);
@@ -68,12 +70,10 @@ impl Sweep {
                     steps: steps_end,
                     rows: out as u64,
                     sweep: Sweep {
-                        grid: g,
-                        order,
-                        flow,
                         case_number: k,
                         steps_made: end,
                         open_case: c_end,
+                        ..self
                     },
                 };
             }
@@ -83,12 +83,10 @@ impl Sweep {
             steps,
             rows: out as u64,
             sweep: Sweep {
-                grid: g,
-                order,
-                flow,
-                case_number: k,
+                case_number: cases,
                 steps_made: made,
                 open_case: c,
+                ..self
             },
         }
     }
@@ -100,8 +98,7 @@ fn is_broken(s: Sweep) -> bool
 {
     let g = s.grid;
     let order = s.order;
-    let refusal = rules::number(check_sweep(g, order));
-    if 0 < refusal {
+    if check_sweep(g, order).is_err() {
         return true;
     }
     let cases = case_count(g, order);

@@ -1,14 +1,16 @@
 -- The claims speak of what the code returns: what a caller learns from a contract in `fault_sweep` or `sweep_start`, as Rattle reads its clauses, gives the claim of the result.
 -- Assumes nothing.
-use Prim.Native.Nat.{ℕ}
 use mathlib.Core.Path.{◌≡◌, refl, sym, ◌∙◌}
-use mathlib.Core.List.{List, []}
+use mathlib.Core.List.{[]}
+use Rattle.std.specs.Prelude.{Ok}
+use Rattle.std.proofs.lemmas.Result.{IfOk-at_ok}
 use contract.Lifetimes.{Lfts}
 use borrow.Fn.World.{ArgsD, ResD}
 use borrow.Fn.Kinds.{ended_of}
 use denote.Triple.Clauses.{AtExit}
 use Rattle.rules.specs.Studies.{number_of}
-use Rattle.portions.specs.Calls.{Called, Made, Chain, last, and}
+use Rattle.rules.proofs.Outcomes.{ok_at, accepted_at}
+use Rattle.portions.specs.Calls.{Chain, last, and}
 use Rattle.portions.specs.Refusals.{RefusedIf}
 use Rattle.portions.proofs.Course.{chain_and}
 use Rattle.power_flow.specs.Flow.{solution_of}
@@ -19,6 +21,7 @@ use Rattle.fault_sweep.proofs.Tied.{call, advance_made}
 use Rattle.fault_sweep.specs.contracts.sweep.Sweep.advance as advance-contract
 use Rattle.fault_sweep.proofs.sweep.Sweep.advance.Kinds as advance-kinds
 use Rattle.fault_sweep.proofs.sweep.Sweep.advance.Reads as advance-reads
+use Rattle.sweep_start.specs.Start.{started_sweep}
 use Rattle.sweep_start.specs.contracts.start_sweep as start-contract
 use Rattle.sweep_start.proofs.start_sweep.Kinds as start-kinds
 use Rattle.sweep_start.proofs.start_sweep.Reads as start-reads
@@ -49,9 +52,10 @@ advanced_chain s cs u (more {cs = ds} κs a r e before h) =
 
 module _ (κs : Lfts 0) (a : ArgsD start-contract.signature κs) (r : ResD start-contract.signature κs) (e : AtExit (ended_of 0 start-kinds.ps start-kinds.r) κs) where
   -- one that is accepted is kept after 0 steps
-  pub start_accepted : start-reads.Learnt κs a r e → number_of r.verdict ≡ 0 → r.sweep ≡ sweep_after a.0 a.1.0 (solution_of a.0) 0
-  start_accepted h z = h.1 ∙ start_claims.started a.0 a.1.0 (sym h.0 ∙ z)
+  pub start_accepted : start-reads.Learnt κs a r e → number_of r ≡ 0 → r ≡ Ok (sweep_after a.0 a.1.0 (solution_of a.0) 0)
+  start_accepted h z = ok_at r _ z (rw (← start_claims.started a.0 a.1.0 (sym h.0 ∙ z)) h.1)
 
   -- demand 3, of any calls of the sweep that is returned
-  pub start_swept : start-reads.Learnt κs a r e → number_of r.verdict ≡ 0 → (cs : Calls) (u : Sweep) → Advanced r.sweep cs u → Demand3 a.0 a.1.0 cs
-  start_swept h z cs u calls = sweep_claims.demand3 a.0 a.1.0 (sym h.0 ∙ z) cs (rw h.1 at (advanced_chain r.sweep cs u calls).0)
+  pub start_swept : start-reads.Learnt κs a r e → (s : Sweep) → r ≡ Ok s → (cs : Calls) (u : Sweep) → Advanced s cs u → Demand3 a.0 a.1.0 cs
+  start_swept h s started cs u calls =
+      let is : s ≡ started_sweep a.0 a.1.0 = IfOk-at_ok (λ x. x ≡ started_sweep a.0 a.1.0) started h.1 in sweep_claims.demand3 a.0 a.1.0 (sym h.0 ∙ accepted_at started) cs (rw is at (advanced_chain s cs u calls).0)

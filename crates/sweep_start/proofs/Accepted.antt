@@ -1,9 +1,8 @@
 -- What is accepted of a sweep is accepted of its flow. Assumes nothing.
 use Prim.Native.Nat.{ℕ}
 use mathlib.Core.Path.{◌≡◌, refl}
-use mathlib.Core.Bool.{Bool, true, not}
+use mathlib.Core.Bool.{true, not}
 use lib.ListN.{get_or}
-use Rattle.lists.specs.Scans.{every}
 use Rattle.lists.proofs.Scanning.{passed}
 use Rattle.grid.specs.declared.parts.SweepOrder.{SweepOrder}
 use Rattle.grid.specs.declared.simulator.DcSwitchingSimulator.{DcSwitchingSimulator}

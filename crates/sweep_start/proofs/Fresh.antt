@@ -1,10 +1,8 @@
 -- A sweep after 0 steps: its first case is open, as before its first step. Assumes nothing.
-use Prim.Native.Nat.{ℕ, suc, ◌+◌, ◌*◌, ◌/◌, ◌%◌, ◌≤◌, ◌<◌}
+use Prim.Native.Nat.{◌*◌, ◌≤◌, ◌<◌}
 use native.Mathlib.Nat.{zero-div, zero-mod, mul-le-mul}
 use native.Mathlib.Omega.{arith}
-use mathlib.Core.Path.{◌≡◌, refl, sym, ap, ◌∙◌}
-use mathlib.Core.Bool.{true, false, not}
-use lib.Dec.{eqb}
+use mathlib.Core.Path.{◌≡◌, refl, ap}
 use lib.ListN.{length, take, length-take}
 use borrow.Author.Tests.{lt-ltb, eq-eqb, eqb-false, not-true}
 use Rattle.grid.specs.declared.parts.SweepOrder.{SweepOrder}

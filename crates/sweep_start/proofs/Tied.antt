@@ -1,5 +1,6 @@
 -- What a caller learns from the contract in src/, as Rattle reads its clauses, is the definition of the result, and nothing is asked of the caller. Assumes nothing.
 use mathlib.Core.Path.{◌≡◌}
+use Rattle.std.specs.Prelude.{IfOk}
 use contract.Lifetimes.{Lfts}
 use borrow.Fn.World.{ArgsD, ResD}
 use borrow.Fn.Kinds.{ended_of}
@@ -14,8 +15,8 @@ module _ (κs : Lfts 0) (a : ArgsD start-contract.signature κs) (r : ResD start
   pub start_any : start-reads.Asked κs a
   start_any = tt
 
-  pub start_verdict : start-reads.Learnt κs a r e → number_of r.verdict ≡ sweep_refused a.0 a.1.0
-  start_verdict h = h.0
+  pub start_refusal : start-reads.Learnt κs a r e → number_of r ≡ sweep_refused a.0 a.1.0
+  start_refusal h = h.0
 
-  pub start_kept : start-reads.Learnt κs a r e → r.sweep ≡ started_sweep a.0 a.1.0
+  pub start_kept : start-reads.Learnt κs a r e → IfOk r (λ sweep. sweep ≡ started_sweep a.0 a.1.0)
   start_kept h = h.1

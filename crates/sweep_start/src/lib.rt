@@ -3,4 +3,4 @@
 
 mod start;
 
-pub use start::{StartedSweep, start_sweep};
+pub use start::start_sweep;

@@ -2,20 +2,9 @@
 use Rattle.case_reasons.specs.Reasons.{reasons_of}
 use Rattle.lists.proofs.Scanning.{unmapped, length_cut}
 use lib.ListN.{length}
-use native.Mathlib.Omega.{arith}
 use mathlib.Core.Path.{◌≡◌}
 use borrow.Author.Rules.{rules}
 use Rattle.case_reasons.proofs.reasons.reasons_for.Goals as goal
-
-pub overflow_add-result : goal.overflow_add-result
-overflow_add-result c = record { fits = omega (arith, c.weight-2.ensures.most, c.weight.ensures.most) }
-
-pub overflow_add-result-2 : goal.overflow_add-result-2
-overflow_add-result-2 c = record { fits = omega (arith, c.weight-3.ensures.most, c.weight-2.ensures.most, c.weight.ensures.most) }
-
-pub overflow_add-result-3 : goal.overflow_add-result-3
-overflow_add-result-3 c =
-    record { fits = omega (arith, c.weight-4.ensures.most, c.weight-3.ensures.most, c.weight-2.ensures.most, c.weight.ensures.most) }
 
 pub returns : goal.returns
 unfolding reasons_of

@@ -3,17 +3,8 @@ use Rattle.case_steps.specs.Plans.{plan_case_from}
 use Prim.Native.Nat.{suc, ◌+◌, ◌-◌}
 use native.Mathlib.Numerals.{add-one}
 use native.Mathlib.Omega.{arith}
-use mathlib.Core.Path.{◌≡◌, refl, ◌∙◌}
+use mathlib.Core.Path.{◌≡◌}
 use Rattle.case_steps.proofs.steps.case_steps.Goals as goal
-
-pub loop-step-init : goal.loop-step-init
-loop-step-init c = refl
-
-pub detected_steps-requires : goal.detected_steps-requires
-detected_steps-requires c = c.if-c.true
-
-pub returns-then-c : goal.returns-then-c
-returns-then-c c = c.detected_steps.ensures ∙ c.loop-step.invariant
 
 pub loop-step-preserved : goal.loop-step-preserved
 unfolding plan_case_from

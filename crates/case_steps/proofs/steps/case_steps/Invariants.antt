@@ -6,6 +6,3 @@ use Rattle.case_steps.proofs.steps.case_steps.Given as goal
 
 abbrev pub invariant-loop-step : goal.invariant-loop-step
 invariant-loop-step l = plan_case_from l.plan l.step l.c (l.end - l.step) ≡ plan_case_from l.plan l.first l.initial.c (l.end - l.first)
-
-abbrev pub decreases-loop-step : goal.decreases-loop-step
-decreases-loop-step l = l.end - l.step

@@ -4,12 +4,8 @@ use Rattle.case_steps.specs.Plans.{plan_case_step, plan_case_from}
 use Prim.Native.Nat.{suc, ◌+◌, ◌-◌}
 use native.Mathlib.Numerals.{add-one}
 use native.Mathlib.Omega.{arith}
-use mathlib.Core.Bool.{true}
-use mathlib.Core.Path.{◌≡◌, refl, sym, ap, ◌∙◌}
+use mathlib.Core.Path.{◌≡◌, sym, ap, ◌∙◌}
 use Rattle.case_steps.proofs.steps.detected_steps.Goals as goal
-
-pub loop-step-init : goal.loop-step-init
-loop-step-init c = refl
 
 pub loop-step-preserved : goal.loop-step-preserved
 unfolding plan_case_from plan_case_step

@@ -14,6 +14,3 @@ with v current = record { variables = v; detected = true; clearing_current_ka = 
 abbrev pub invariant-loop-step : goal.invariant-loop-step
 invariant-loop-step l =
     plan_case_from l.plan l.step (with l.v l.clearing_current_ka) (l.end - l.step) ≡ plan_case_from l.plan l.first (with l.initial.v l.initial.clearing_current_ka) (l.end - l.first)
-
-abbrev pub decreases-loop-step : goal.decreases-loop-step
-decreases-loop-step l = l.end - l.step

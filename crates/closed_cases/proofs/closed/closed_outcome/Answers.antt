@@ -1,37 +1,29 @@
 -- `closed_outcome` meets its contract. Assumes nothing.
-use Prim.Native.Nat.{◌≤◌}
-use native.Mathlib.Omega.{arith}
-use mathlib.Core.Path.{◌≡◌, ap, ◌∙◌}
-use mathlib.Core.Bool.{◌&&◌}
-use lib.Dec.{eqb}
-use lib.ListN.{length}
+use Rattle.std.proofs.Common.{◌≡◌, ◌≤◌, length, ap, ◌∙◌, ◌&&◌, eqb, arith, rules}
 use Rattle.lists.proofs.Fills.{get_d_within}
 use Rattle.lists.proofs.Scanning.{unmapped}
 use Rattle.case_ends.specs.declared.ends.SiteEnds.{SiteEnds}
-use borrow.Author.Rules.{rules}
-use Rattle.closed_cases.proofs.AllSteps.{few_tried, takes_held, takes_own}
 use Rattle.closed_cases.specs.Cables.{blank_site, in_site}
+use Rattle.closed_cases.proofs.AllSteps.{few_tried, takes_held, takes_own, takes_own_alone}
 use Rattle.closed_cases.proofs.closed.closed_outcome.Goals as goal
+use Rattle.closed_cases.proofs.closed.closed_outcome.Goals.{in-Some+else-fresh-held, in_default}
 
-pub offset_bounds-sites-tenth : goal.offset_bounds-sites-tenth
-offset_bounds-sites-tenth c =
-    let few : c.case_place-place.result.tenth ≤ 10 = few_tried (c.args.fresh && c.args.ends.held && eqb c.args.ends.cable c.case_place-place.result.cable) _ c.args.common.order c.case_place-place.result.tenth c.is_tried.ensures c.if-fresh-ends.true in
-    omega (arith, few)
-
-pub bounds-sites-tenth : goal.bounds-sites-tenth
-bounds-sites-tenth c =
-    let few : c.case_place-place.result.tenth ≤ 10 = few_tried (c.args.fresh && c.args.ends.held && eqb c.args.ends.cable c.case_place-place.result.cable) _ c.args.common.order c.case_place-place.result.tenth c.is_tried.ensures c.if-fresh-ends.true in
-    omega (arith, few)
-
-pub returns-then-fresh-ends : goal.returns-then-fresh-ends
-returns-then-fresh-ends c =
-    let few : c.case_place-place.result.tenth ≤ 10 = few_tried (c.args.fresh && c.args.ends.held && eqb c.args.ends.cable c.case_place-place.result.cable) _ c.args.common.order c.case_place-place.result.tenth c.is_tried.ensures c.if-fresh-ends.true in
-    let long : length c.args.ends.sites ≡ 11 = search (rules, unmapped) in
+pub returns-then-fresh-held : goal.returns-then-fresh-held
+returns-then-fresh-held c =
+    let held = c.in-Some.held in
     let place = c.case_place-place.result in
-    takes_held c.args.common c.args.ends c.args.fresh c.args.k c.args.made c.args.c place c.case_place-place.ensures _ c.is_tried.ensures c.in_site.result c.if-fresh-ends.true
+    let few : place.tenth ≤ 10 = few_tried (c.args.fresh && eqb held.cable place.cable) _ c.args.common.order place.tenth c.is_tried.ensures c.if-fresh-held.true in
+    let long : length held.sites ≡ 11 = search (rules, unmapped) in
+    rw c.in-Some.is
+    (takes_held c.args.common held c.args.fresh c.args.k c.args.made c.args.c place c.case_place-place.ensures _ c.is_tried.ensures c.in_site.result c.if-fresh-held.true
     (c.in_site.ensures
-    ∙ ap (λ (y : SiteEnds). in_site y place.fault_type) (get_d_within c.args.ends.sites place.tenth _ blank_site (omega (arith, few, long))))
+    ∙ ap (λ (y : SiteEnds). in_site y place.fault_type) (get_d_within held.sites place.tenth _ blank_site (omega (arith, few, long)))))
 
 pub returns : goal.returns
 returns c =
-    takes_own c.args.common c.args.ends c.args.fresh c.args.k c.args.made c.args.c c.case_place-place.result c.case_place-place.ensures _ c.is_tried.ensures c.end_for.result c.if-fresh-ends.false c.end_for.ensures
+    elim c.match-ends.branch [
+      | in-Some+else-fresh-held w ↦
+          rw w.in-Some.is
+          (takes_own c.args.common w.in-Some.held c.args.fresh c.args.k c.args.made c.args.c c.case_place-place.result c.case_place-place.ensures _ w.is_tried.ensures c.end_for.result w.if-fresh-held.false c.end_for.ensures)
+      | in_default w ↦ rw w.in_default.is (takes_own_alone c.args.common c.args.fresh c.args.k c.args.made c.args.c c.case_place-place.result c.case_place-place.ensures c.end_for.result c.end_for.ensures)
+    ]

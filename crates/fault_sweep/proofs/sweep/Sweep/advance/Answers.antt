@@ -29,23 +29,8 @@ loop-k-init c =
     rw c.no_cable_ends-ends.ensures
     (inside c.args.self (sym c.is_broken.ensures ∙ c.if-is_broken.false) _ _ _ _ _ _ refl c.total_steps-n.ensures c.case_count-cases.ensures c.common_of-common.ensures)
 
-pub overflow_sub-left : goal.overflow_sub-left
-overflow_sub-left c = omega (arith, c.loop-k.invariant.made_ok)
-
-pub overflow_sub-allowed : goal.overflow_sub-allowed
-overflow_sub-allowed c = omega (arith, c.loop-k.invariant.going.steps_ok)
-
 pub overflow_sub-space : goal.overflow_sub-space
 overflow_sub-space c = omega (arith, in_space _ _ _ c.loop-k.invariant c.loop-k-test.true _ refl c.if-left-allowed.true)
-
-pub ends_held-ends-requires : goal.ends_held-ends-requires
-ends_held-ends-requires c = tt
-
-pub closed_outcome-outcome-requires : goal.closed_outcome-outcome-requires
-closed_outcome-outcome-requires c = tt
-
-pub put_case-out-requires : goal.put_case-out-requires
-put_case-out-requires c = tt
 
 pub overflow_add-out : goal.overflow_add-out
 overflow_add-out c =
@@ -56,19 +41,10 @@ pub overflow_add-steps : goal.overflow_add-steps
 overflow_add-steps c =
     omega (arith, steps_allowed _ _ _ c.loop-k.invariant c.loop-k-test.true _ refl c.if-left-allowed.true, c.ranges.allowance)
 
-pub overflow_add-k : goal.overflow_add-k
-overflow_add-k c = omega (arith, c.loop-k-test.true)
-
-pub loop-k-smaller : goal.loop-k-smaller
-loop-k-smaller c = omega (arith, c.loop-k-test.true)
-
 pub loop-k-preserved : goal.loop-k-preserved
 loop-k-preserved c =
     let put = with_room _ _ _ _ _ _ _ (room _ _ _ c.loop-k.invariant c.loop-k-test.true _ refl c.if-left-allowed.true) (c.put_case-out.ensures.answer, c.put_case-out.ensures.memory) in
     closes _ _ _ c.loop-k.invariant c.loop-k-test.true _ refl c.if-left-allowed.true c.ends_held-ends.result c.ends_held-ends.ensures c.closed_outcome-outcome.result c.closed_outcome-outcome.ensures c.put_case-out.result put.0 _ put.1 _ c.open_case-c.ensures
-
-pub steps_left_open-count-requires : goal.steps_left_open-count-requires
-steps_left_open-count-requires c = tt
 
 pub overflow_add-end : goal.overflow_add-end
 overflow_add-end c =
@@ -80,16 +56,10 @@ overflow_add-steps_end c =
     let counted : (c.loop-k.made + c.steps_left_open-count.result ≤ 1000000) × (c.loop-k.steps + c.steps_left_open-count.result ≤ c.args.allowance) = few_steps _ _ _ c.loop-k.invariant c.loop-k-test.true _ refl c.if-left-allowed.false c.steps_left_open-count.result c.steps_left_open-count.ensures in
     omega (arith, counted.1, c.ranges.allowance)
 
-pub shape_of-rows-else-left-allowed : goal.shape_of-rows-else-left-allowed
-shape_of-rows-else-left-allowed c = c.loop-k.invariant.going.same_length
-
 pub returns-else-left-allowed : goal.returns-else-left-allowed
 returns-else-left-allowed c =
     let r = returned (leaves _ _ _ c.loop-k.invariant c.loop-k-test.true _ refl c.if-left-allowed.false c.steps_left_open-count.result c.steps_left_open-count.ensures c.make_steps-c_end.result c.make_steps-c_end.ensures) in
     record { answer = rw c.reason.ensures r.0; memory = r.1 }
-
-pub shape_of-rows : goal.shape_of-rows
-shape_of-rows c = c.loop-k.invariant.going.same_length
 
 pub returns : goal.returns
 returns c =
