@@ -1,33 +1,24 @@
 // Job 8: an operation on doubles.
-use crate::numbers;
-use crate::numbers::{Cursor, ROOM};
+use crate::bench::Bench;
+use crate::numbers::Ended;
+use float64::from_bits;
 
-// The last operation.
-const MIN: u64 = 5;
-
-// The operation, then two doubles by their bits; the answer is the result by its bits. The reading ends at an operation that there is
-// not.
-pub fn answer(lines: &mut [u8; ROOM], answers: &mut [u8; ROOM], c: Cursor) -> Cursor {
-    let row = numbers::next_row(lines, c, 3);
-    let n = row.numbers;
-    let d = row.doubles;
-    let c = row.c;
-    let result = result_of(n[0], d[1], d[2]);
-    numbers::append(
-        answers,
-        numbers::ended_if(c, n[0] > MIN),
-        float64::to_bits(result),
-    )
+// The operation, then two doubles by their bits; the answer is the result by its bits.
+pub fn answer(b: &mut Bench) -> Result<(), Ended> {
+    let n = b.reader.numbers::<3>()?;
+    let result = result_of(n[0], from_bits(n[1]), from_bits(n[2]))?;
+    b.writer.append(result)
 }
 
-// The operations that take one double ignore b.
-fn result_of(operation: u64, a: f64, b: f64) -> f64 {
+// The operations that take one double ignore y. The reading ends at an operation that there is not.
+fn result_of(operation: u64, x: f64, y: f64) -> Result<f64, Ended> {
     match operation {
-        0 => square_root::sqrt(a),
-        1 => elementary::exp(a),
-        2 => elementary::sin(a),
-        3 => elementary::cos(a),
-        4 => float64::max(a, b),
-        _ => float64::min(a, b),
+        0 => Ok(square_root::sqrt(x)),
+        1 => Ok(elementary::exp(x)),
+        2 => Ok(elementary::sin(x)),
+        3 => Ok(elementary::cos(x)),
+        4 => Ok(float64::max(x, y)),
+        5 => Ok(float64::min(x, y)),
+        _ => Err(Ended),
     }
 }

@@ -1,105 +1,67 @@
 // States of a grid as the jobs give them, and job 6, which looks at two.
+use crate::bench::Bench;
+use crate::grids;
 use crate::grids::{BREAKERS, CABLES, STATIONS};
-use crate::numbers::{Cursor, LONGEST, ROOM};
-use crate::{grids, numbers};
+use crate::numbers::Ended;
+use crate::reader::Reader;
+use crate::writer::Writer;
 use detection::detect_fault;
 use grid::DcSwitchingSimulator;
 use state_derivatives::DcTransientState;
 
-// A state, and the cursor past it. Once the reading has ended the state means nothing.
-#[derive(Clone, Copy)]
-pub struct StateRead {
-    pub state: DcTransientState,
-    pub c: Cursor,
-}
+// The voltages and currents of a state.
+const ENTRIES: usize = STATIONS + CABLES;
 
 // Job 6: a grid and two states of it, the later first. The answer is a refusal, and 1 or 0 if it is 0.
-pub fn detection(lines: &mut [u8; ROOM], answers: &mut [u8; ROOM], c: Cursor) -> Cursor {
-    let r = grids::read_given(lines, c, 0);
-    let g = r.grid;
-    let later = read_timed_state(lines, r.c, g);
-    let earlier = read_timed_state(lines, later.c, g);
-    let answer = detect_fault(g, later.state, earlier.state);
-    let verdict = answer.verdict;
-    let refusal = rules::number(verdict);
-    let c = numbers::append(answers, earlier.c, refusal);
-    if refusal > 0 {
-        return c;
+pub fn detection(b: &mut Bench) -> Result<(), Ended> {
+    let grid = grids::read_grid(&mut b.reader)?;
+    let later = read_timed_state(&mut b.reader, grid)?;
+    let earlier = read_timed_state(&mut b.reader, grid)?;
+    match detect_fault(grid, later, earlier) {
+        Ok(detected) => {
+            b.writer.append(0u64)?;
+            b.writer.append(detected)
+        }
+        Err(refusal) => b.writer.append(refusal.number()),
     }
-    numbers::append_bool(answers, c, answer.detected)
 }
 
 // The time, then the state.
-fn read_timed_state(lines: &mut [u8; ROOM], c: Cursor, g: DcSwitchingSimulator) -> StateRead {
-    let row = numbers::next_row(lines, c, 1);
-    let d = row.doubles;
-    read_state(lines, row.c, g, d[0])
+fn read_timed_state(
+    reader: &mut Reader,
+    grid: DcSwitchingSimulator,
+) -> Result<DcTransientState, Ended> {
+    let time_ms = reader.next_double()?;
+    read_state(reader, grid, time_ms)
 }
 
-// Station voltages, then cable currents, as many as the counts, but no more than there is room for.
+// Station voltages, then cable currents, as many as the counts, but no more than there is room for. What a job does not give is at rest.
 pub fn read_state(
-    lines: &mut [u8; ROOM],
-    c: Cursor,
-    g: DcSwitchingSimulator,
+    reader: &mut Reader,
+    grid: DcSwitchingSimulator,
     time_ms: f64,
-) -> StateRead {
-    let voltages = numbers::cut(g.n_stations, STATIONS);
-    let currents = numbers::cut(g.n_cables, CABLES);
-    let row = numbers::next_row(lines, c, voltages + currents);
-    let y = row.doubles;
-    let c = row.c;
-    StateRead {
-        state: state_of(time_ms, y),
-        c,
-    }
-}
-
-// What a job does not give is at rest.
-fn state_of(time_ms: f64, y: [f64; LONGEST]) -> DcTransientState {
-    let station_currents_ka = [0.0; STATIONS];
-    let breaker_states = [true; BREAKERS];
-    DcTransientState {
+) -> Result<DcTransientState, Ended> {
+    let mut y = [0.0; ENTRIES];
+    let n = STATIONS.min(grid.n_stations) + CABLES.min(grid.n_cables);
+    reader.fill(&mut y[..n])?;
+    Ok(DcTransientState {
         time_ms,
         y,
-        station_currents_ka,
+        station_currents_ka: [0.0; STATIONS],
         fault_current_ka: 0.0,
-        breaker_states,
-    }
+        breaker_states: [true; BREAKERS],
+    })
 }
 
 // Station voltages, station currents and cable currents, as many as the counts, but no more than there is room for.
 pub fn append_state(
-    answers: &mut [u8; ROOM],
-    c: Cursor,
-    g: DcSwitchingSimulator,
+    w: &mut Writer,
+    grid: DcSwitchingSimulator,
     state: DcTransientState,
-) -> Cursor {
-    let n = numbers::cut(g.n_stations, STATIONS);
-    let m = numbers::cut(g.n_cables, CABLES);
-    let c = append_entries(answers, c, state, 0, n);
-    let c = append_currents(answers, c, state, n);
-    append_entries(answers, c, state, n, n + m)
-}
-
-// The entries of the state from the first one on, up to the end.
-fn append_entries(
-    answers: &mut [u8; ROOM],
-    c: Cursor,
-    state: DcTransientState,
-    first: usize,
-    end: usize,
-) -> Cursor {
-    let y = state.y;
-    numbers::append_doubles(answers, c, &y, first, end)
-}
-
-// The first n station currents.
-fn append_currents(
-    answers: &mut [u8; ROOM],
-    c: Cursor,
-    state: DcTransientState,
-    n: usize,
-) -> Cursor {
-    let currents = state.station_currents_ka;
-    numbers::append_doubles(answers, c, &currents, 0, n)
+) -> Result<(), Ended> {
+    let n = STATIONS.min(grid.n_stations);
+    let m = CABLES.min(grid.n_cables);
+    w.append_all(&state.y[..n])?;
+    w.append_all(&state.station_currents_ka[..n])?;
+    w.append_all(&state.y[n..n + m])
 }

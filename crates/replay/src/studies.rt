@@ -1,12 +1,22 @@
 // Fault runs, switching runs and sweeps, as the jobs put them together, start them and advance them.
-use crate::grids::Given;
-use crate::numbers::LONGEST;
-use crate::{grids, numbers};
+ghost use Rattle.std.specs.Prelude.{◌≤◌};
+
+use crate::grids::read_fault;
+use crate::numbers::{Answer, Ended};
+use crate::reader::Reader;
+use crate::sweeps::append_kept;
+use crate::writer::Writer;
 use fault_runs::FaultRun;
+use fault_start::simulate_fault;
 use fault_sweep::Sweep;
 use grid::{DcSwitchingSimulator, SweepOrder};
+use portions::Stop;
+use rules::Refusal;
+use runs::DcTransientResult;
+use sweep_start::start_sweep;
 use switching_plan::SwitchingVariables;
 use switching_runs::SwitchingRun;
+use switching_start::simulate_switching;
 
 // The most numbers of lent memory.
 pub const MOST: usize = 4096;
@@ -14,208 +24,213 @@ pub const MOST: usize = 4096;
 // How many numbers a row of a sweep has.
 const ROW: usize = 8;
 
+// A study after a call, how the call stopped, the steps that it made and the records or rows that it wrote.
 #[derive(Clone, Copy)]
-pub enum Kind {
-    FaultRun,
-    SwitchingRun,
-    Sweep,
-}
-
-// A study of a kind. An enum cannot hold an array, so that there is one of each; the other two mean nothing.
-#[derive(Clone, Copy)]
-pub struct Study {
-    pub kind: Kind,
-    pub fault_run: FaultRun,
-    pub switching_run: SwitchingRun,
-    pub sweep: Sweep,
-}
-
-// A study and its refusal by number, 0 where it is accepted.
-#[derive(Clone, Copy)]
-pub struct Started {
-    pub refusal: u64,
-    pub study: Study,
-}
-
-// A study after a call, how the call stopped, the steps that it made and the records or rows that it wrote, and how many doubles and
-// numbers of the memory these have.
-#[derive(Clone, Copy)]
-pub struct Portion {
-    pub study: Study,
-    pub stop: u64,
+pub struct Portion<S> {
+    pub study: S,
+    pub stop: Stop,
     pub steps: u64,
     pub records: u64,
-    pub doubles: usize,
-    pub numbers: usize,
 }
 
-// A study put together from a grid and numbers, unchecked, its variables, flow and open case zeros. Each kind has its own numbers.
-pub fn study_of(kind: Kind, given: Given) -> Study {
-    let g = given.grid;
-    let n = given.numbers;
-    let d = given.doubles;
-    Study {
-        kind,
-        fault_run: fault_run_of(g, n, d),
-        switching_run: switching_run_of(g, n),
-        sweep: sweep_of(g, n, d),
+pub trait Study: Copy {
+    // What a call writes into lent memory: a run doubles, a sweep numbers.
+    type Item: Answer;
+
+    // Put together from a grid and the numbers behind it, unchecked and without steps, its variables, flow and open case zeros.
+    fn read(reader: &mut Reader, grid: DcSwitchingSimulator) -> Result<Self, Ended>;
+
+    // The same study with steps made, as the numbers behind it say.
+    fn read_kept(self, reader: &mut Reader) -> Result<Self, Ended>;
+
+    // Starts what it was put together from, unless that is refused.
+    fn start(self) -> Result<Self, Refusal>;
+
+    fn call(self, allowance: u64, memory: &mut [Self::Item]) -> Portion<Self>;
+
+    // A call with memory of its own, and its answer.
+    fn lend(self, w: &mut Writer, allowance: u64, space: usize) -> Result<Self, Ended>
+        requires { space ≤ MOST };
+
+    // The figures of a run, or a kept sweep.
+    fn append_end(self, w: &mut Writer) -> Result<(), Ended>;
+}
+
+impl Study for FaultRun {
+    type Item = f64;
+
+    // A fault.
+    fn read(reader: &mut Reader, grid: DcSwitchingSimulator) -> Result<FaultRun, Ended> {
+        let blank = case_steps::no_open_case();
+        Ok(FaultRun {
+            grid,
+            fault: read_fault(reader)?,
+            steps_made: 0,
+            variables: blank.variables,
+        })
+    }
+
+    fn read_kept(self, reader: &mut Reader) -> Result<FaultRun, Ended> {
+        let mut run = self;
+        run.steps_made = reader.next()?;
+        Ok(run)
+    }
+
+    fn start(self) -> Result<FaultRun, Refusal> {
+        simulate_fault(self.grid, self.fault)
+    }
+
+    fn call(self, allowance: u64, memory: &mut [f64]) -> Portion<FaultRun> {
+        let advanced = self.advance(allowance, memory);
+        Portion {
+            study: advanced.run,
+            stop: advanced.stop,
+            steps: advanced.steps,
+            records: advanced.records,
+        }
+    }
+
+    fn lend(self, w: &mut Writer, allowance: u64, space: usize) -> Result<FaultRun, Ended> {
+        let mut memory = [0.0; MOST];
+        let p = self.call(allowance, &mut memory[..space]);
+        append_portion(w, p, timing::record_length(self.grid), &memory)
+    }
+
+    fn append_end(self, w: &mut Writer) -> Result<(), Ended> {
+        append_figures(w, self.figures(), self.steps_made)
     }
 }
 
-// A fault, then the steps made.
-fn fault_run_of(grid: DcSwitchingSimulator, n: [u64; LONGEST], d: [f64; LONGEST]) -> FaultRun {
-    let blank = case_steps::no_open_case();
-    let variables = blank.variables;
-    FaultRun {
-        grid,
-        fault: grids::fault_of(n, d),
-        steps_made: n[5],
-        variables,
+impl Study for SwitchingRun {
+    type Item = f64;
+
+    // A breaker number, whether it opens. Any breaker number is taken.
+    fn read(reader: &mut Reader, grid: DcSwitchingSimulator) -> Result<SwitchingRun, Ended> {
+        let [breaker_id, open] = reader.numbers::<2>()?;
+        Ok(SwitchingRun {
+            grid,
+            breaker_id,
+            open: open == 1,
+            steps_made: 0,
+            variables: SwitchingVariables {
+                state: runs::blank_state(),
+                switched: false,
+            },
+        })
+    }
+
+    fn read_kept(self, reader: &mut Reader) -> Result<SwitchingRun, Ended> {
+        let mut run = self;
+        run.steps_made = reader.next()?;
+        Ok(run)
+    }
+
+    fn start(self) -> Result<SwitchingRun, Refusal> {
+        simulate_switching(self.grid, self.breaker_id, self.open)
+    }
+
+    fn call(self, allowance: u64, memory: &mut [f64]) -> Portion<SwitchingRun> {
+        let advanced = self.advance(allowance, memory);
+        Portion {
+            study: advanced.run,
+            stop: advanced.stop,
+            steps: advanced.steps,
+            records: advanced.records,
+        }
+    }
+
+    fn lend(self, w: &mut Writer, allowance: u64, space: usize) -> Result<SwitchingRun, Ended> {
+        let mut memory = [0.0; MOST];
+        let p = self.call(allowance, &mut memory[..space]);
+        append_portion(w, p, timing::record_length(self.grid), &memory)
+    }
+
+    fn append_end(self, w: &mut Writer) -> Result<(), Ended> {
+        append_figures(w, self.figures(), self.steps_made)
     }
 }
 
-// A breaker number, whether it opens, and the steps made.
-fn switching_run_of(grid: DcSwitchingSimulator, n: [u64; LONGEST]) -> SwitchingRun {
-    SwitchingRun {
-        grid,
-        breaker_id: n[0],
-        open: n[1] == 1,
-        steps_made: n[2],
-        variables: SwitchingVariables {
-            state: runs::blank_state(),
-            switched: false,
-        },
+impl Study for Sweep {
+    type Item = u64;
+
+    // Resistance, inception, low and high tenth.
+    fn read(reader: &mut Reader, grid: DcSwitchingSimulator) -> Result<Sweep, Ended> {
+        let [fault_resistance, inception_time_ms] = reader.doubles::<2>()?;
+        let [low_tenth, high_tenth] = reader.numbers::<2>()?;
+        Ok(Sweep {
+            grid,
+            order: SweepOrder {
+                fault_resistance,
+                inception_time_ms,
+                low_tenth,
+                high_tenth,
+            },
+            flow: power_flow::no_solution(),
+            case_number: 0,
+            steps_made: 0,
+            open_case: case_steps::no_open_case(),
+        })
+    }
+
+    // A case number, and the steps made in that case.
+    fn read_kept(self, reader: &mut Reader) -> Result<Sweep, Ended> {
+        let mut sweep = self;
+        sweep.case_number = reader.next()?;
+        sweep.steps_made = reader.next()?;
+        Ok(sweep)
+    }
+
+    fn start(self) -> Result<Sweep, Refusal> {
+        start_sweep(self.grid, self.order)
+    }
+
+    fn call(self, allowance: u64, memory: &mut [u64]) -> Portion<Sweep> {
+        let advanced = self.advance(allowance, memory);
+        Portion {
+            study: advanced.sweep,
+            stop: advanced.stop,
+            steps: advanced.steps,
+            records: advanced.rows,
+        }
+    }
+
+    fn lend(self, w: &mut Writer, allowance: u64, space: usize) -> Result<Sweep, Ended> {
+        let mut memory = [0u64; MOST];
+        let p = self.call(allowance, &mut memory[..space]);
+        append_portion(w, p, ROW, &memory)
+    }
+
+    fn append_end(self, w: &mut Writer) -> Result<(), Ended> {
+        append_kept(w, self)
     }
 }
 
-// Resistance, inception, low and high tenth, then a case number and the steps made in that case.
-fn sweep_of(grid: DcSwitchingSimulator, n: [u64; LONGEST], d: [f64; LONGEST]) -> Sweep {
-    Sweep {
-        grid,
-        order: SweepOrder {
-            fault_resistance: d[0],
-            inception_time_ms: d[1],
-            low_tenth: n[2],
-            high_tenth: n[3],
-        },
-        flow: power_flow::no_solution(),
-        case_number: n[4],
-        steps_made: n[5],
-        open_case: case_steps::no_open_case(),
-    }
+// How a call stopped, its steps and how many records or rows it wrote, then these, as far as there is memory.
+fn append_portion<S: Copy, A: Answer>(
+    w: &mut Writer,
+    p: Portion<S>,
+    record_length: usize,
+    memory: &[A],
+) -> Result<S, Ended> {
+    w.append_all(&[portions::number(p.stop), p.steps, p.records])?;
+    let items = (p.records as usize).saturating_mul(record_length);
+    w.append_all(&memory[..items.min(memory.len())])?;
+    Ok(p.study)
 }
 
-// Starts what the study was put together from.
-pub fn start(study: Study) -> Started {
-    let kind = study.kind;
-    match kind {
-        Kind::FaultRun => start_fault_run(study),
-        Kind::SwitchingRun => start_switching_run(study),
-        Kind::Sweep => start_sweep(study),
-    }
-}
-
-fn start_fault_run(study: Study) -> Started {
-    let mut s = study;
-    let run = s.fault_run;
-    let started = fault_start::simulate_fault(run.grid, run.fault);
-    let verdict = started.verdict;
-    let run = started.run;
-    s.fault_run = run;
-    Started {
-        refusal: rules::number(verdict),
-        study: s,
-    }
-}
-
-fn start_switching_run(study: Study) -> Started {
-    let mut s = study;
-    let run = s.switching_run;
-    let started = switching_start::simulate_switching(run.grid, run.breaker_id, run.open);
-    let verdict = started.verdict;
-    let run = started.run;
-    s.switching_run = run;
-    Started {
-        refusal: rules::number(verdict),
-        study: s,
-    }
-}
-
-fn start_sweep(study: Study) -> Started {
-    let mut s = study;
-    let sweep = s.sweep;
-    let started = sweep_start::start_sweep(sweep.grid, sweep.order);
-    let verdict = started.verdict;
-    let sweep = started.sweep;
-    s.sweep = sweep;
-    Started {
-        refusal: rules::number(verdict),
-        study: s,
-    }
-}
-
-// One call. A run writes doubles, a sweep numbers.
-pub fn advance(study: Study, allowance: u64, doubles: &mut [f64], numbers: &mut [u64]) -> Portion {
-    let kind = study.kind;
-    match kind {
-        Kind::FaultRun => advance_fault_run(study, allowance, doubles),
-        Kind::SwitchingRun => advance_switching_run(study, allowance, doubles),
-        Kind::Sweep => advance_sweep(study, allowance, numbers),
-    }
-}
-
-fn advance_fault_run(study: Study, allowance: u64, memory: &mut [f64]) -> Portion {
-    let mut s = study;
-    let run = s.fault_run;
-    let advanced = run.advance(allowance, memory);
-    let stop = advanced.stop;
-    let run = advanced.run;
-    s.fault_run = run;
-    Portion {
-        study: s,
-        stop: portions::number(stop),
-        steps: advanced.steps,
-        records: advanced.records,
-        doubles: numbers_of(advanced.records, timing::record_length(run.grid)),
-        numbers: 0,
-    }
-}
-
-fn advance_switching_run(study: Study, allowance: u64, memory: &mut [f64]) -> Portion {
-    let mut s = study;
-    let run = s.switching_run;
-    let advanced = run.advance(allowance, memory);
-    let stop = advanced.stop;
-    let run = advanced.run;
-    s.switching_run = run;
-    Portion {
-        study: s,
-        stop: portions::number(stop),
-        steps: advanced.steps,
-        records: advanced.records,
-        doubles: numbers_of(advanced.records, timing::record_length(run.grid)),
-        numbers: 0,
-    }
-}
-
-fn advance_sweep(study: Study, allowance: u64, memory: &mut [u64]) -> Portion {
-    let mut s = study;
-    let sweep = s.sweep;
-    let advanced = sweep.advance(allowance, memory);
-    let stop = advanced.stop;
-    let sweep = advanced.sweep;
-    s.sweep = sweep;
-    Portion {
-        study: s,
-        stop: portions::number(stop),
-        steps: advanced.steps,
-        records: advanced.rows,
-        doubles: 0,
-        numbers: numbers_of(advanced.rows, ROW),
-    }
-}
-
-// How many numbers so many records or rows have. No more than the memory has are there.
-fn numbers_of(records: u64, size: usize) -> usize {
-    numbers::cut(records as usize, MOST) * numbers::cut(size, MOST)
+// Peak, clearing time, energy, recovery time, largest di/dt, whether the fault is cleared, and the steps made in all.
+fn append_figures(
+    w: &mut Writer,
+    figures: DcTransientResult,
+    steps_made: u64,
+) -> Result<(), Ended> {
+    w.append_all(&[
+        figures.peak_fault_current_ka,
+        figures.fault_clearing_time_ms,
+        figures.energy_dissipated_mj,
+        figures.voltage_recovery_time_ms,
+        figures.max_di_dt,
+    ])?;
+    w.append(figures.fault_cleared)?;
+    w.append(steps_made)
 }

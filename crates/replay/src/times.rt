@@ -1,57 +1,44 @@
 // Job 12: what a grid says of times. The Rust has these numbers inside its runs; here they can be asked for.
+use crate::bench::Bench;
+use crate::grids;
 use crate::grids::BREAKERS;
-use crate::numbers::{Cursor, ROOM};
-use crate::{grids, numbers};
+use crate::numbers::Ended;
+use crate::writer::Writer;
 use grid::DcSwitchingSimulator;
 
 // A grid, which is not refused. The answer: steps, counted to one past the limit, recording interval, recorded steps, length of
 // a record; time step and duration in milliseconds and the fastest clearing time; then each breaker's clearing time.
-pub fn answer(lines: &mut [u8; ROOM], answers: &mut [u8; ROOM], c: Cursor) -> Cursor {
-    let r = grids::read_given(lines, c, 0);
-    let g = r.grid;
-    let c = append_steps(answers, r.c, timing::total_steps(g));
-    let c = numbers::append(answers, c, timing::record_length(g) as u64);
-    let c = append_times(answers, c, g);
-    append_clearing_times(answers, c, g)
+pub fn answer(b: &mut Bench) -> Result<(), Ended> {
+    let grid = grids::read_grid(&mut b.reader)?;
+    append_steps(&mut b.writer, timing::total_steps(grid))?;
+    b.writer.append(timing::record_length(grid) as u64)?;
+    append_times(&mut b.writer, grid)?;
+    append_clearing_times(&mut b.writer, grid)
 }
 
 // Steps, recording interval, recorded steps; time step and duration in milliseconds: what a run uses of the grid's two times.
-pub fn append_run_times(answers: &mut [u8; ROOM], c: Cursor, g: DcSwitchingSimulator) -> Cursor {
-    let c = append_steps(answers, c, timing::total_steps(g));
-    append_times(answers, c, g)
+pub fn append_run_times(w: &mut Writer, grid: DcSwitchingSimulator) -> Result<(), Ended> {
+    append_steps(w, timing::total_steps(grid))?;
+    append_times(w, grid)
 }
 
-fn append_steps(answers: &mut [u8; ROOM], c: Cursor, steps: u64) -> Cursor {
-    let all = [
+fn append_steps(w: &mut Writer, steps: u64) -> Result<(), Ended> {
+    w.append_all(&[
         steps,
         timing::record_interval(steps),
         timing::recorded_steps(steps),
-    ];
-    numbers::append_numbers(answers, c, &all, 0, 3)
+    ])
 }
 
-fn append_times(answers: &mut [u8; ROOM], c: Cursor, g: DcSwitchingSimulator) -> Cursor {
-    let both = [timing::time_step_ms(g), timing::duration_ms(g)];
-    numbers::append_doubles(answers, c, &both, 0, 2)
+fn append_times(w: &mut Writer, grid: DcSwitchingSimulator) -> Result<(), Ended> {
+    w.append_all(&[timing::time_step_ms(grid), timing::duration_ms(grid)])
 }
 
-// The fastest breaker's, then each one's.
-fn append_clearing_times(answers: &mut [u8; ROOM], c: Cursor, g: DcSwitchingSimulator) -> Cursor {
-    let fastest = [breaker_times::fastest_breaker_clearing_ms(g)];
-    let c = numbers::append_doubles(answers, c, &fastest, 0, 1);
-    let all = clearing_times(g);
-    numbers::append_doubles(answers, c, &all, 0, g.n_breakers)
-}
-
-// Of every place for a breaker, also past the count.
-fn clearing_times(g: DcSwitchingSimulator) -> [f64; BREAKERS] {
-    let mut all = [0.0; BREAKERS];
-    let mut i = 0;
-    while i < BREAKERS {
-        let b = g.breakers[i];
-        let breaker_type = b.breaker_type;
-        all[i] = breaker_times::breaker_clearing_time_ms(breaker_type);
-        i += 1;
+// The fastest breaker's, then each one's, no more of them than there is room for.
+fn append_clearing_times(w: &mut Writer, grid: DcSwitchingSimulator) -> Result<(), Ended> {
+    w.append(breaker_times::fastest_breaker_clearing_ms(grid))?;
+    for breaker in &grid.breakers[..BREAKERS.min(grid.n_breakers)] {
+        w.append(breaker_times::breaker_clearing_time_ms(breaker.breaker_type))?;
     }
-    all
+    Ok(())
 }

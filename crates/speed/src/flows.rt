@@ -8,30 +8,16 @@ use std::num::nearest_u64_to_f64;
 // Adds up total losses and passes. The second station has the power first, first + step, and so on.
 pub fn sum_losses(r: Request) -> f64 {
     let mut grid = grids::grid_of(r.order);
-    let mut sum = 0.0;
-    let mut mw = r.first;
-    let mut left = r.count;
-    while 0 < left {
-        grid = with_power(grid, mw);
-        sum += losses_and_passes(grid);
-        mw += r.step;
-        left -= 1;
-    }
-    sum
+    r.turns.sum(|mw, _left| {
+        grid.stations[1].p_rated_mw = mw;
+        losses_and_passes(grid)
+    })
 }
 
-// The grid with that power at its second station.
-fn with_power(g: DcSwitchingSimulator, mw: f64) -> DcSwitchingSimulator {
-    let mut grid = g;
-    let mut station = grid.stations[1];
-    station.p_rated_mw = mw;
-    grid.stations[1] = station;
-    grid
-}
-
-// The total losses of the grid's flow and its passes, added.
+// The total losses of the grid's flow and its passes, added; 0 where it is refused.
 fn losses_and_passes(grid: DcSwitchingSimulator) -> f64 {
-    let answer = solve_dc_power_flow(grid);
-    let solution = answer.solution;
+    let Ok(solution) = solve_dc_power_flow(grid) else {
+        return 0.0;
+    };
     solution.total_losses_mw + nearest_u64_to_f64(solution.iterations)
 }

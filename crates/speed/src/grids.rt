@@ -3,7 +3,7 @@ use grid::{
     ConverterStation, ConverterTopology, DcBreaker, DcBreakerType, DcCable, DcFaultEvent,
     DcFaultType, DcSwitchingSimulator,
 };
-use std::num::{nearest_u64_to_f64, wrapping_add_u64};
+use std::num::nearest_u64_to_f64;
 
 // No grid has room for more parts of a kind.
 const MOST: u64 = 64;
@@ -22,43 +22,39 @@ pub struct Order {
 }
 
 pub fn grid_of(o: Order) -> DcSwitchingSimulator {
-    let mut grid = DcSwitchingSimulator::new(o.dt_us, o.duration_ms);
-    let mut i = 0;
-    while i < MOST {
-        grid = with_breaker(with_cable(with_station(grid, o, i), o, i), o, i);
-        i += 1;
+    let bare = DcSwitchingSimulator::new(o.dt_us, o.duration_ms);
+    let stations = with_parts(bare, o.stations, |grid, i| {
+        let station = station(i, topology(i), o.power_mw);
+        grid.add_station(station).unwrap_or(grid)
+    });
+    let cables = with_parts(stations, o.cables, |grid, i| {
+        let cable = cable(i, o.stations, o.ohms_per_km);
+        grid.add_cable(cable).unwrap_or(grid)
+    });
+    with_parts(cables, o.breakers, |grid, i| {
+        let breaker = breaker(i, o.breaker_ms + nearest_u64_to_f64(i));
+        grid.add_breaker(breaker).unwrap_or(grid)
+    })
+}
+
+// The grid with so many parts of a kind, no more than it has room for.
+fn with_parts<F: Fn(DcSwitchingSimulator, u64) -> DcSwitchingSimulator>(
+    bare: DcSwitchingSimulator,
+    count: u64,
+    with_part: F,
+) -> DcSwitchingSimulator
+    requires { F.IsAlwaysCallable with_part }
+{
+    let mut grid = bare;
+    for i in 0..count.min(MOST) {
+        grid = with_part(grid, i);
     }
     grid
 }
 
-fn with_station(g: DcSwitchingSimulator, o: Order, i: u64) -> DcSwitchingSimulator {
-    if o.stations <= i {
-        return g;
-    }
-    let added = g.add_station(station(i, topology(i), o.power_mw));
-    added.grid
-}
-
-fn with_cable(g: DcSwitchingSimulator, o: Order, i: u64) -> DcSwitchingSimulator {
-    if o.cables <= i {
-        return g;
-    }
-    let added = g.add_cable(cable(i, o.stations, o.ohms_per_km));
-    added.grid
-}
-
-fn with_breaker(g: DcSwitchingSimulator, o: Order, i: u64) -> DcSwitchingSimulator {
-    if o.breakers <= i {
-        return g;
-    }
-    let added = g.add_breaker(breaker(i, o.breaker_ms + nearest_u64_to_f64(i)));
-    added.grid
-}
-
 // The four in turn.
 fn topology(id: u64) -> ConverterTopology {
-    let kind = id % 4;
-    match kind {
+    match id % 4 {
         0 => ConverterTopology::Lcc,
         1 => ConverterTopology::TwoLevelVsc,
         2 => ConverterTopology::Mmc { n_submodules: 200 },
@@ -87,7 +83,7 @@ fn cable(id: u64, stations: u64, r_per_km: f64) -> DcCable {
     DcCable {
         id,
         from_station: around(id, stations),
-        to_station: around(wrapping_add_u64(id, over), stations),
+        to_station: around(id.wrapping_add(over), stations),
         r_per_km,
         l_per_km: 0.5,
         c_per_km: 0.2,
@@ -96,16 +92,12 @@ fn cable(id: u64, stations: u64, r_per_km: f64) -> DcCable {
 }
 
 fn around(k: u64, stations: u64) -> u64 {
-    if stations < 1 {
-        return 0;
-    }
-    k % stations
+    if stations == 0 { 0 } else { k % stations }
 }
 
 // The three kinds in turn: the first is mechanical.
 pub fn breaker(id: u64, ms: f64) -> DcBreaker {
-    let kind = id % 3;
-    let breaker_type = match kind {
+    let breaker_type = match id % 3 {
         0 => DcBreakerType::Mechanical {
             opening_time_ms: ms,
         },

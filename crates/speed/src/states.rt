@@ -6,20 +6,21 @@ use network::{Drain, Network, drain_of, network_of};
 use state_derivatives::DcTransientState;
 use transient::rk4_step;
 
-// The sum of the state after so many steps of `step` seconds, from that in which a fault run begins, with a fault on the first cable.
+// The sum of the state after so many steps of `step` seconds, from that in which a fault run begins, with a fault on the first
+// cable, or from zeros where it is refused.
 pub fn sum_after_steps(r: Request) -> f64 {
     let grid = grids::grid_of(r.order);
     let fault = grids::fault_at(r.inception_ms);
-    let started = simulate_fault(grid, fault);
-    let run = started.run;
-    let variables = run.variables;
-    let start = variables.state;
+    let start = match simulate_fault(grid, fault) {
+        Ok(run) => run.variables.state,
+        Err(_) => runs::blank_state(),
+    };
     let after = after_steps(
         network_of(grid),
         drain_of(grid, fault),
         start,
-        r.step,
-        r.count,
+        r.turns.step,
+        r.turns.count,
     );
     sum_state(0.0, after)
 }
@@ -33,10 +34,8 @@ fn after_steps(
     count: u64,
 ) -> DcTransientState {
     let mut state = start;
-    let mut left = count;
-    while 0 < left {
+    for _step in 0..count {
         state = rk4_step(network, drain, state, dt_s);
-        left -= 1;
     }
     state
 }
@@ -50,10 +49,8 @@ pub fn sum_state(first: f64, state: DcTransientState) -> f64 {
 
 fn sum_entries(first: f64, entries: &[f64]) -> f64 {
     let mut sum = first;
-    let mut i = 0;
-    while i < entries.len() {
-        sum += entries[i];
-        i += 1;
+    for x in entries {
+        sum += *x;
     }
     sum
 }

@@ -1,12 +1,9 @@
 // Whole runs, advanced as long as steps are left, with all of the memory lent in each call.
-ghost use Rattle.std.specs.Prelude.{◌≤◌};
-
 use crate::grids;
 use crate::requests::Request;
 use crate::states::sum_state;
 use fault_runs::FaultRun;
 use fault_start::simulate_fault;
-use grid::{DcFaultEvent, DcSwitchingSimulator};
 use portions::Stop;
 use runs::DcTransientResult;
 use switching_runs::SwitchingRun;
@@ -18,69 +15,85 @@ const MEMORY: usize = 8192;
 // No run has more steps, and a call makes at least one.
 const CALLS: u64 = 1000000;
 
-// Adds up what the runs lead to.
-pub fn sum_runs(r: Request) -> f64 {
+// A run after a call, and how the call stopped.
+#[derive(Clone, Copy)]
+struct Called<R> {
+    stop: Stop,
+    run: R,
+}
+
+trait Run: Copy {
+    // A call with any number of steps.
+    fn call(self, memory: &mut [f64; MEMORY]) -> Called<Self>;
+
+    // The sum of figures and last state.
+    fn sum(self) -> f64;
+}
+
+impl Run for FaultRun {
+    fn call(self, memory: &mut [f64; MEMORY]) -> Called<FaultRun> {
+        let advanced = self.advance(u64::MAX, memory);
+        Called {
+            stop: advanced.stop,
+            run: advanced.run,
+        }
+    }
+
+    fn sum(self) -> f64 {
+        sum_state(sum_figures(self.figures()), self.variables.state)
+    }
+}
+
+impl Run for SwitchingRun {
+    fn call(self, memory: &mut [f64; MEMORY]) -> Called<SwitchingRun> {
+        let advanced = self.advance(u64::MAX, memory);
+        Called {
+            stop: advanced.stop,
+            run: advanced.run,
+        }
+    }
+
+    fn sum(self) -> f64 {
+        sum_state(sum_figures(self.figures()), self.variables.state)
+    }
+}
+
+// Adds up what fault runs lead to; a refused one counts as 0.
+pub fn sum_fault_runs(r: Request) -> f64 {
     let grid = grids::grid_of(r.order);
     let fault = grids::fault_at(r.inception_ms);
     let mut memory = [0.0; MEMORY];
-    let mut sum = 0.0;
-    let mut left = r.count;
-    while 0 < left {
-        sum += sum_run(r.work, grid, fault, &mut memory);
-        left -= 1;
-    }
-    sum
+    r.turns.sum(|_x, _left| {
+        match simulate_fault(grid, fault) {
+            Ok(run) => sum_run(run, &mut memory),
+            Err(_) => 0.0,
+        }
+    })
 }
 
-// A fault run, or a run in which all breakers open.
-fn sum_run(
-    work: u64,
-    grid: DcSwitchingSimulator,
-    fault: DcFaultEvent,
-    memory: &mut [f64; MEMORY],
-) -> f64 {
-    if work == 12 {
-        let started = simulate_fault(grid, fault);
-        return sum_fault_run(started.run, memory);
-    }
-    let started = simulate_switching(grid, 1, true);
-    sum_switching_run(started.run, memory)
+// Adds up what runs lead to in which all breakers open; a refused one counts as 0.
+pub fn sum_switching_runs(r: Request) -> f64 {
+    let grid = grids::grid_of(r.order);
+    let mut memory = [0.0; MEMORY];
+    r.turns.sum(|_x, _left| {
+        match simulate_switching(grid, 1, true) {
+            Ok(run) => sum_run(run, &mut memory),
+            Err(_) => 0.0,
+        }
+    })
 }
 
-// The sum of figures and last state.
-fn sum_fault_run(start: FaultRun, memory: &mut [f64; MEMORY]) -> f64 {
+// What a run leads to.
+fn sum_run<R: Run>(start: R, memory: &mut [f64; MEMORY]) -> f64 {
     let mut run = start;
-    let mut left = CALLS;
-    while 0 < left {
-        let advanced = run.advance(u64::MAX, memory);
-        let stop = advanced.stop;
-        run = advanced.run;
-        left = calls_after(stop, left - 1);
+    for _call in 0..CALLS {
+        let called = run.call(memory);
+        run = called.run;
+        if matches!(called.stop, Stop::Finished) {
+            break;
+        }
     }
-    let variables = run.variables;
-    let state = variables.state;
-    sum_state(sum_figures(run.figures()), state)
-}
-
-fn sum_switching_run(start: SwitchingRun, memory: &mut [f64; MEMORY]) -> f64 {
-    let mut run = start;
-    let mut left = CALLS;
-    while 0 < left {
-        let advanced = run.advance(u64::MAX, memory);
-        let stop = advanced.stop;
-        run = advanced.run;
-        left = calls_after(stop, left - 1);
-    }
-    let variables = run.variables;
-    let state = variables.state;
-    sum_state(sum_figures(run.figures()), state)
-}
-
-// None once the run is finished.
-fn calls_after(stop: Stop, left: u64) -> u64
-    ensures { result ≤ left }
-{
-    if portions::number(stop) == 0 { 0 } else { left }
+    run.sum()
 }
 
 fn sum_figures(figures: DcTransientResult) -> f64 {

@@ -1,10 +1,11 @@
 // The listing of a sheet: its rows as their cases close, and its totals; or its refusal.
 use crate::output::{MEMORY, print_end, print_refusal, print_rows};
-use crate::progress::{is_long, say};
+use crate::progress::Progress;
 use fault_cases::case_count;
-use fault_sweep::{AdvancedSweep, Sweep};
+use fault_sweep::Sweep;
 use portions::Stop;
-use sheet::SheetAnswer;
+use sheet::{SheetContents, SheetRefusal};
+use std::io;
 use sweep_start::start_sweep;
 use timing::total_steps;
 
@@ -12,25 +13,22 @@ use timing::total_steps;
 const MOST_STEPS: u64 = 1_000_000;
 // A cable has no more cases: three types at eleven tenths.
 const CASES_OF_CABLE: u64 = 33;
+// A loop has to end, and no sweep has more calls than this.
+const CALLS: u64 = u64::MAX;
 
 // Prints the listing of a sheet, or by what it is refused. Of the rules a sheet does not show 10: it has no line.
-pub fn print_answer(rt: &(impl Print + Eprint), answer: SheetAnswer) {
-    let refusal = answer.refusal;
-    if refusal.number != 0 {
-        print_refusal(rt, refusal.number, refusal.line);
-        return;
+pub fn print_answer(
+    rt: &(impl Print + Eprint),
+    answer: Result<SheetContents, SheetRefusal>,
+) -> io::Result<()> {
+    let contents = match answer {
+        Ok(contents) => contents,
+        Err(refusal) => return print_refusal(rt, refusal.fault.number(), refusal.line),
+    };
+    match start_sweep(contents.grid, contents.order) {
+        Ok(sweep) => print_cases(rt, sweep),
+        Err(refusal) => print_refusal(rt, refusal.number(), 0),
     }
-    let grid = answer.grid;
-    let order = answer.order;
-    let started = start_sweep(grid, order);
-    let verdict = started.verdict;
-    let number = rules::number(verdict);
-    if number != 0 {
-        print_refusal(rt, number, 0);
-        return;
-    }
-    let s = started.sweep;
-    print_cases(rt, s);
 }
 
 // How many steps a call is allowed: those of all cases of a cable, which are worked out together.
@@ -39,58 +37,31 @@ fn allowance_of(cases: u64, cables: usize, steps_of_case: u64) -> u64 {
         return steps_of_case;
     }
     let of_cable = cases / cables as u64;
-    if of_cable > CASES_OF_CABLE {
-        return steps_of_case;
-    }
-    if steps_of_case > MOST_STEPS {
+    if of_cable > CASES_OF_CABLE || steps_of_case > MOST_STEPS {
         return steps_of_case;
     }
     of_cable * steps_of_case
 }
 
-// More steps. Their sum is far from the largest u64.
-fn sum_of(steps: u64, more: u64) -> u64 {
-    if more > u64::MAX - steps {
-        u64::MAX
-    } else {
-        steps + more
-    }
-}
-
-// A call on the whole memory.
-fn advance(s: Sweep, allowance: u64, memory: &mut [u64; MEMORY]) -> AdvancedSweep {
-    s.advance(allowance, memory)
-}
-
 // Runs a sweep to its end, and prints each call's rows before the next.
-fn print_cases(rt: &(impl Print + Eprint), start: Sweep) {
+fn print_cases(rt: &(impl Print + Eprint), start: Sweep) -> io::Result<()> {
     let grid = start.grid;
-    let order = start.order;
-    let cases = case_count(grid, order);
+    let cases = case_count(grid, start.order);
     let steps_of_case = total_steps(grid);
     let allowance = allowance_of(cases, grid.n_cables, steps_of_case);
-    let long = is_long(cases, steps_of_case);
+    let mut progress = Progress::new(cases, steps_of_case);
     let mut memory = [0u64; MEMORY];
-    let mut s = start;
-    let mut steps = 0;
-    let mut said = 0;
-    // A loop has to end, and no sweep has more calls than this.
-    let mut calls = u64::MAX;
-    while calls > 0 {
-        calls -= 1;
-        let advanced = advance(s, allowance, &mut memory);
-        steps = sum_of(steps, advanced.steps);
-        if !print_rows(rt, &memory, advanced.rows) {
-            return;
-        }
-        s = advanced.sweep;
-        if long {
-            said = say(rt, said, s.case_number, cases);
-        }
-        let stop = advanced.stop;
-        if let Stop::Finished = stop {
-            print_end(rt, cases, steps);
-            return;
+    let mut sweep = start;
+    let mut steps: u64 = 0;
+    for _call in 0..CALLS {
+        let advanced = sweep.advance(allowance, &mut memory);
+        steps = steps.saturating_add(advanced.steps);
+        print_rows(rt, &memory, advanced.rows)?;
+        sweep = advanced.sweep;
+        progress.say(rt, sweep.case_number);
+        if matches!(advanced.stop, Stop::Finished) {
+            return print_end(rt, cases, steps);
         }
     }
+    Ok(())
 }

@@ -2,56 +2,54 @@
 // rule that the sheet breaks and the line that shows it. How far it is goes to standard error.
 #![tactic(auto)]
 
-ghost use Rattle.sweep.specs.Turns.{Within};
+ghost use Rattle.std.specs.Prelude.{IfOk};
+ghost use Rattle.sweep.specs.Turns.{Within, IsRead};
 
 mod listing;
 mod output;
 mod progress;
 
+use sheet::Reading;
+use std::io;
 use std::io::{ErrorKind, Read};
 
-// What one read came to.
-#[derive(Clone, Copy)]
-pub enum Turn {
-    Got(usize),
-    End,
-    Failed,
-}
+// A loop has to end, and no input has more pieces than this.
+const TURNS: u64 = u64::MAX;
 
-// Reads once. A call that a signal interrupts has got nothing, and is no failure.
-fn read_some(rt: &(impl Input + Eprint), buffer: &mut [u8; 65536]) -> Turn
+// Reads once, and answers how many bytes it got, or none at the end. A call that a signal interrupts has got nothing, and is no failure.
+fn read_some(rt: &impl Input, buffer: &mut [u8; 65536]) -> io::Result<Option<usize>>
     ensures { Within result buffer.new }
 {
     match rt.reader().read(buffer) {
-        Ok(0) => Turn::End,
-        Ok(n) => Turn::Got(n),
-        Err(e) if e.kind() == ErrorKind::Interrupted => Turn::Got(0),
-        Err(e) => {
-            let _ = eprintln!(rt; "standard input: {e}");
-            Turn::Failed
-        }
+        Ok(0) => Ok(None),
+        Ok(n) => Ok(Some(n)),
+        Err(e) if e.kind() == ErrorKind::Interrupted => Ok(Some(0)),
+        Err(e) => Err(e),
     }
 }
 
-// Reads until the input ends, or nothing that follows can change the answer. An input that cannot be read is not answered.
-fn main(rt: HostRuntime) {
+// Reads until the input ends, or nothing that follows can change the answer.
+fn read_sheet(rt: &impl Input) -> io::Result<Reading>
+    ensures { IfOk result IsRead }
+{
     let mut buffer = [0; 65536];
     let mut reading = sheet::start();
-    // A loop has to end, and no input has more pieces than this.
-    let mut turns = u64::MAX;
-    while turns > 0 {
-        turns -= 1;
-        let turn = read_some(&rt, &mut buffer);
-        let Turn::Got(n) = turn else {
-            if let Turn::End = turn {
-                listing::print_answer(&rt, sheet::answer(reading));
-            }
-            return;
+    for _turn in 0..TURNS {
+        let Some(n) = read_some(rt, &mut buffer)? else {
+            break;
         };
         reading = sheet::feed(reading, &buffer[..n]);
         if sheet::stopped(reading) {
-            listing::print_answer(&rt, sheet::answer(reading));
-            return;
+            break;
         }
     }
+    Ok(reading)
+}
+
+// An input that cannot be read is not answered. Nothing is left to do where an answer cannot be written.
+fn main(rt: HostRuntime) {
+    let _ = match read_sheet(&rt) {
+        Ok(reading) => listing::print_answer(&rt, sheet::answer(reading)),
+        Err(e) => eprintln!(rt; "standard input: {e}"),
+    };
 }

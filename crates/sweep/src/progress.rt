@@ -4,31 +4,40 @@ const LONG_SWEEP: u64 = 1_000_000;
 // No sweep has as many cases.
 const MANY_CASES: u64 = 1_000_000_000;
 
-// Whether all cases together have as many steps as a long sweep.
-pub fn is_long(cases: u64, steps_of_case: u64) -> bool {
-    if steps_of_case == 0 {
-        return false;
+// What has been said of a sweep of so many cases: how many hundredths of them were done. One that is not long is counted too, and nothing is said of it.
+#[derive(Drop)]
+pub struct Progress {
+    cases: u64,
+    long: bool,
+    said: u64,
+}
+
+impl Progress {
+    // Of a sweep that begins. It is long if all cases together have as many steps as a long sweep.
+    pub fn new(cases: u64, steps_of_case: u64) -> Progress {
+        Progress {
+            cases,
+            long: cases.saturating_mul(steps_of_case) >= LONG_SWEEP,
+            said: 0,
+        }
     }
-    cases > (LONG_SWEEP - 1) / steps_of_case
+
+    // Prints a line if the sweep is long, and more hundredths are done than were said last.
+    pub fn say(&mut self, rt: &impl Eprint, done: u64) {
+        let hundredths = hundredths(done, self.cases);
+        if !self.long || hundredths <= self.said {
+            return;
+        }
+        let cases = self.cases;
+        let _ = eprintln!(rt; "{done} of {cases} cases");
+        self.said = hundredths;
+    }
 }
 
 // How many hundredths of the cases are done.
 fn hundredths(done: u64, cases: u64) -> u64 {
-    if cases == 0 {
-        return 100;
-    }
-    if done > MANY_CASES {
+    if cases == 0 || done > MANY_CASES {
         return 100;
     }
     done * 100 / cases
-}
-
-// Prints a line if more hundredths are done than were said last, and answers how many are said now.
-pub fn say(rt: &impl Eprint, said: u64, done: u64, cases: u64) -> u64 {
-    let now = hundredths(done, cases);
-    if now <= said {
-        return said;
-    }
-    let _ = eprintln!(rt; "{done} of {cases} cases");
-    now
 }

@@ -1,5 +1,0 @@
--- `main` ends: fewer turns are left after each. Assumes nothing.
-use Rattle.speed.proofs.main.Given as goal
-
-abbrev pub decreases-loop-left : goal.decreases-loop-left
-decreases-loop-left l = l.left

@@ -1,6 +1,0 @@
--- `number_at` stays within the line. Assumes nothing.
-use Rattle.std.proofs.Common.{◌-◌}
-use Rattle.speed.proofs.requests.number_at.Given as goal
-
-abbrev pub decreases-loop-i : goal.decreases-loop-i
-decreases-loop-i l = 21 - l.i

@@ -1,5 +1,0 @@
--- `sum_values` ends: fewer turns are left after each. Assumes nothing.
-use Rattle.speed.proofs.values.sum_values.Given as goal
-
-abbrev pub decreases-loop-left : goal.decreases-loop-left
-decreases-loop-left l = l.left

@@ -1,5 +1,0 @@
--- `sum_runs` ends: fewer turns are left after each. Assumes nothing.
-use Rattle.speed.proofs.whole_runs.sum_runs.Given as goal
-
-abbrev pub decreases-loop-left : goal.decreases-loop-left
-decreases-loop-left l = l.left
