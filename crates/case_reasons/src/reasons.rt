@@ -5,8 +5,6 @@ ghost use Rattle.case_reasons.specs.Reasons.{exceeds, at_end, limit_of, exceeded
 
 use grid::{DcBreaker, DcCable, DcSwitchingSimulator, MOST_BREAKERS, present};
 
-const MOST_CABLES: u64 = 64;
-
 // What the reasons and the row are read from, once all steps of a case are made. Cleared or not and detected or not are reasons themselves, and the
 // current of a case that is not cleared is 0 in its row: no Option holds it.
 #[derive(Clone, Copy)]
@@ -60,12 +58,7 @@ fn weight(applies: bool, reason: u64) -> u64
 fn cable_at(g: DcSwitchingSimulator, number: u64) -> DcCable
     ensures { result ≡ cable_in g number }
 {
-    let cables = g.cables;
-    if number < MOST_CABLES {
-        let at = number as usize;
-        return cables[at];
-    }
-    DcCable {
+    let none = DcCable {
         id: 0,
         from_station: 0,
         to_station: 0,
@@ -73,7 +66,9 @@ fn cable_at(g: DcSwitchingSimulator, number: u64) -> DcCable
         l_per_km: 0.0,
         c_per_km: 0.0,
         length_km: 0.0,
-    }
+    };
+    let cables = g.cables;
+    cables.get(number as usize).copied().unwrap_or(none)
 }
 
 // Whether the value exceeds that limit of some breaker at an end of the cable.

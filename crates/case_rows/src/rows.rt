@@ -10,8 +10,6 @@ use fault_cases::case_place;
 use grid::{DcSwitchingSimulator, SweepOrder};
 use power_flow::DcGridSolution;
 
-const MOST_CABLES: u64 = 64;
-
 // What the row of a case is read from beside its outcome.
 #[derive(Clone, Copy)]
 pub struct Swept {
@@ -48,9 +46,5 @@ fn loss_of(flow: DcGridSolution, cable: u64) -> f64
     ensures { result ≡ loss_in flow cable }
 {
     let losses = flow.cable_losses_mw;
-    if cable < MOST_CABLES {
-        let at = cable as usize;
-        return losses[at];
-    }
-    0.0
+    losses.get(cable as usize).copied().unwrap_or(0.0)
 }

@@ -4,14 +4,9 @@ ghost use Rattle.closed_cases.specs.Cables.{blank_site, tried, site_at, no_cable
 
 use case_ends::{SiteEnds, site_ends};
 use case_reasons::CaseOutcome;
-use fault_cases::{CasePlace, case_place, tenth_count};
+use fault_cases::{CasePlace, FAULT_TYPES, MOST_TENTHS, case_place, tenth_count};
 use grid::{DcFaultType, SweepOrder};
 use sweep_cases::{Common, plan_at};
-
-// Pole to ground, pole to pole, internal.
-const FAULT_TYPES: u64 = 3;
-
-const MOST_TENTHS: u64 = 10;
 
 // Tenths 0 to 10.
 const PLACES: usize = 11;

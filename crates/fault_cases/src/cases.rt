@@ -6,9 +6,9 @@ use grid::{DcFaultEvent, DcFaultType, DcSwitchingSimulator, MOST_CABLES, SweepOr
 use std::num::nearest_u64_to_f64;
 
 // Pole to ground, pole to pole, internal.
-const FAULT_TYPES: u64 = 3;
+pub const FAULT_TYPES: u64 = 3;
 
-const MOST_TENTHS: u64 = 10;
+pub const MOST_TENTHS: u64 = 10;
 
 // Where and of which type the fault of a case is.
 #[derive(Clone, Copy)]

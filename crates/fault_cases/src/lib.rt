@@ -3,4 +3,6 @@
 
 mod cases;
 
-pub use cases::{CasePlace, case_count, case_place, fault_at, tenth_count, type_number};
+pub use cases::{
+    CasePlace, FAULT_TYPES, MOST_TENTHS, case_count, case_place, fault_at, tenth_count, type_number,
+};
