@@ -2,7 +2,7 @@
 use Rattle.std.proofs.Common.{Some, None}
 use mathlib.Core.Path.{◌≡◌, refl}
 use mathlib.Core.Bool.{true, false}
-use mathlib.Core.List.{List, [], ◌∷◌}
+use mathlib.Core.List.{[], ◌∷◌}
 use lib.Ieee.{of_bits}
 use Rattle.float64.specs.Constants.{nought}
 use Prim.Native.Nat.{◌+◌, ◌^◌}
@@ -17,7 +17,13 @@ use Rattle.grid.specs.declared.parts.SweepOrder.{SweepOrder}
 use Rattle.grid.specs.declared.simulator.DcSwitchingSimulator.{DcSwitchingSimulator}
 use Rattle.sheet_lines.specs.declared.line.SheetLine.TheVariants.{Times, Order, Station, Cable, Breaker}
 use Rattle.line_order.specs.Ordered.{in_order, line_refusal}
-use Rattle.whole_sheets.specs.Sheets.{lines_of, most_lines, no_order, refused, form_refusal, shown_at, first_bad, bad_station, bad_cable, bad_breaker, refusal_of, answered}
+use Prim.Native.Nat.{ℕ}
+use Rattle.std.proofs.Common.{Ok, Err}
+use Rattle.line_order.specs.declared.order.LineFault.TheVariants.{WrongOrder}
+use Rattle.rules.specs.Studies.{rule_number}
+use Rattle.rules.specs.declared.studies.Refusal.TheVariants.{CableOutside}
+use Rattle.whole_sheets.specs.declared.answers.SheetFault.TheVariants.{Line, Rule}
+use Rattle.whole_sheets.specs.Sheets.{printed_of, lines_of, most_lines, no_order, refused, form_refusal, shown_at, first_bad, bad_station, bad_cable, bad_breaker, refusal_of, answered}
 
 -- no line: 13 at line 1; T: 13 at line 2; O: 13 at line 1; T S: 13 at line 2; T T: 13 at line 2; T O T: 13 at line 3; T O O: 13 at line 3; T O S C S: 13 at line 5; T O C B C: 13 at line 5; T O S, a line of wrong form, T: 12 at line 4; T, then one of wrong form where O is missing: 12 at line 2; T O S C B: none; T O: none; T O S B B: none
 orders_are : (form_refusal 0 0 ([]) ≡ refused 13 1) × (form_refusal 0 0 (Some (Times nought nought) ∷ []) ≡ refused 13 2) × (form_refusal 0 0 (Some (Order no_order) ∷ []) ≡ refused 13 1) × (form_refusal 0 0 (Some (Times nought nought) ∷ (Some (Station blank_station true)) ∷ []) ≡ refused 13 2) × (form_refusal 0 0 (Some (Times nought nought) ∷ (Some (Times nought nought)) ∷ []) ≡ refused 13 2) × (form_refusal 0 0 (Some (Times nought nought) ∷ (Some (Order no_order)) ∷ (Some (Times nought nought)) ∷ []) ≡ refused 13 3) × (form_refusal 0 0 (Some (Times nought nought) ∷ (Some (Order no_order)) ∷ (Some (Order no_order)) ∷ []) ≡ refused 13 3) × (form_refusal 0 0 (Some (Times nought nought) ∷ (Some (Order no_order)) ∷ (Some (Station blank_station true)) ∷ (Some (Cable blank_cable)) ∷ (Some (Station blank_station true)) ∷ []) ≡ refused 13 5) × (form_refusal 0 0 (Some (Times nought nought) ∷ (Some (Order no_order)) ∷ (Some (Cable blank_cable)) ∷ (Some (Breaker blank_breaker true)) ∷ (Some (Cable blank_cable)) ∷ []) ≡ refused 13 5) × (form_refusal 0 0 (Some (Times nought nought) ∷ (Some (Order no_order)) ∷ (Some (Station blank_station true)) ∷ None ∷ (Some (Times nought nought)) ∷ []) ≡ refused 12 4) × (form_refusal 0 0 (Some (Times nought nought) ∷ None ∷ []) ≡ refused 12 2) × (form_refusal 0 0 (Some (Times nought nought) ∷ (Some (Order no_order)) ∷ (Some (Station blank_station true)) ∷ (Some (Cable blank_cable)) ∷ (Some (Breaker blank_breaker true)) ∷ []) ≡ refused 0 0) × (form_refusal 0 0 (Some (Times nought nought) ∷ (Some (Order no_order)) ∷ []) ≡ refused 0 0) × (form_refusal 0 0 (Some (Times nought nought) ∷ (Some (Order no_order)) ∷ (Some (Station blank_station true)) ∷ (Some (Breaker blank_breaker true)) ∷ (Some (Breaker blank_breaker true)) ∷ []) ≡ refused 0 0)
@@ -71,3 +77,8 @@ nothing_beside g o = refl
 -- twelve columns hold the number of the last line that is read, and not that of the next
 most_is : most_lines + 1 ≡ 10 ^ 12
 most_is = refl
+
+-- what X prints of a result: the number and the line as they are, and nothing of what is not refused
+printed_are : (printed_of {A = ℕ} (Err (record { fault = Line WrongOrder; line = 4 })) ≡ refused 13 4) × (printed_of {A = ℕ} (Err (record { fault = Rule CableOutside; line = 7 })) ≡ refused 7 7) × (printed_of {A = ℕ} (Ok 5) ≡ refused 0 0)
+unfolding rule_number
+printed_are = (refl, refl, refl)

@@ -1,5 +1,4 @@
 -- A refusal is never printed as 0, so that a result of which 0 would be printed is Ok. Assumes nothing.
-use Prim.Native.Nat.{ℕ}
 use mathlib.Core.Path.{◌≡◌, ap}
 use native.Mathlib.Omega.{arith}
 use Rattle.std.proofs.Common.{Result, Ok, Err, IfOk, IsOkAnd}
