@@ -2,18 +2,19 @@
 use Prim.Native.Nat.{ℕ, ◌<◌, ◌≤◌}
 use mathlib.Core.Path.{◌≡◌, refl, sym}
 use mathlib.Core.Bool.{Bool, true, false, ◌&&◌, cond}
+use native.Mathlib.Omega.{arith}
 use lib.Dec.{eqb, ltb}
 use Rattle.float64.specs.Constants.{nought}
 use Rattle.grid.specs.Simulator.{new_simulator}
-use Rattle.rules.specs.Studies.{rule_number}
+use Rattle.rules.specs.Studies.{rule_number, number_of}
+use Rattle.rules.proofs.Outcomes.{not_nought}
 use Rattle.rules.specs.declared.studies.Refusal as rules
-use Rattle.rules.specs.declared.studies.Refusal.TheVariants.{NoStation, NoCable, TooManyParts, TimeOutside, TooManySteps, StationOutside, CableOutside, BreakerOutside, EventOutside, NotConverged}
 use Rattle.grid.specs.declared.parts.SweepOrder.{SweepOrder}
 use Rattle.grid.specs.declared.simulator.DcSwitchingSimulator.{DcSwitchingSimulator}
 use Rattle.sheet_bytes.specs.Bytes.{ended_of}
 use Rattle.sheet_bytes.specs.declared.bytes.Reading.{Reading}
-use borrow.Author.Tests.{lt-ltb, le-ltb}
-use Rattle.std.proofs.Common.{Some, None}
+use borrow.Author.Tests.{ne_eqb, lt-ltb, le-ltb}
+use Rattle.std.proofs.Common.{Some, None, Err}
 use Rattle.line_order.specs.Ordered.{fault_number}
 use Rattle.line_order.specs.declared.order.LineFault.{LineFault}
 use Rattle.line_order.specs.declared.order.LineFault.TheVariants.{WrongForm, WrongOrder}
@@ -66,28 +67,16 @@ module _ (r : Reading) (s : Sheet) (e : s ≡ ended_of r) where
 
 -- ---- a rule has a number from 1 on
 
-pub no_rule : (r : rules.Refusal) → false ≡ eqb 0 (rule_number r)
-unfolding rule_number
-no_rule NoStation = refl
-no_rule NoCable = refl
-no_rule TooManyParts = refl
-no_rule TimeOutside = refl
-no_rule TooManySteps = refl
-no_rule StationOutside = refl
-no_rule CableOutside = refl
-no_rule BreakerOutside = refl
-no_rule EventOutside = refl
-no_rule NotConverged = refl
+module _ (r : rules.Refusal) where
+  not_0 : rule_number r ≡ 0 → ⊥
+  unfolding number_of
+  not_0 e = not_nought {A = ℕ} (Err r) refl e
 
-pub some_rule : (r : rules.Refusal) (b : Bool) → b ≡ ltb 0 (rule_number r) && b
-unfolding rule_number
-some_rule NoStation b = refl
-some_rule NoCable b = refl
-some_rule TooManyParts b = refl
-some_rule TimeOutside b = refl
-some_rule TooManySteps b = refl
-some_rule StationOutside b = refl
-some_rule CableOutside b = refl
-some_rule BreakerOutside b = refl
-some_rule EventOutside b = refl
-some_rule NotConverged b = refl
+  pub no_rule : false ≡ eqb 0 (rule_number r)
+  no_rule = sym (ne_eqb 0 (rule_number r) (λ e. not_0 (sym e)))
+
+  pub some_rule : (b : Bool) → b ≡ ltb 0 (rule_number r) && b
+  some_rule b = let n : 0 < rule_number r = above (rule_number r) not_0 in rw (lt-ltb 0 (rule_number r) n)
+    where
+      above : (n : ℕ) → (n ≡ 0 → ⊥) → 0 < n
+      above n h = omega arith
