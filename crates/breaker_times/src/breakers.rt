@@ -3,7 +3,7 @@ ghost use Rattle.std.specs.Prelude.{◌≡◌, cond};
 ghost use Rattle.std.specs.Float.Ieee.{lt};
 ghost use Rattle.breaker_times.specs.Breakers.{clearing_time_of, fastest_of};
 
-use grid::{DcBreakerType, DcSwitchingSimulator, MOST_BREAKERS, present};
+use grid::{DcBreakerType, DcSwitchingSimulator};
 use timing::duration_ms;
 
 // breaker_clearing_time_ms
@@ -27,20 +27,18 @@ pub fn breaker_clearing_time_ms(breaker_type: DcBreakerType) -> f64
 pub fn fastest_breaker_clearing_ms(g: DcSwitchingSimulator) -> f64
     ensures { result ≡ fastest_of g }
 {
-    let n = present(g.n_breakers, MOST_BREAKERS);
-    if n == 0 {
+    let breakers = g.present_breakers();
+    if breakers.is_empty() {
         return duration_ms(g);
     }
-    // Taken out of the grid, so that no call copies the rest.
-    let breakers = g.breakers;
     let mut fastest = f64::MAX;
-    for b in &breakers[..n] {
+    for b in breakers {
         fastest = faster_of(fastest, breaker_clearing_time_ms(b.breaker_type));
     }
     fastest
 }
 
-// f64::min with one comparison in place of two, which is faster: the first is never a NaN.
+// f64::min with one comparison in place of two: the first is never a NaN.
 fn faster_of(fastest: f64, t: f64) -> f64
     ensures { result ≡ cond (lt t fastest) t fastest }
 {

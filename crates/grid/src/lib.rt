@@ -2,15 +2,17 @@
 #![tactic(auto)]
 
 mod cables;
+mod counts;
 mod parts;
 mod simulator;
 
 pub use cables::{cable_resistance, cut_end};
+pub use counts::{BreakerCount, CableCount, Count, StationCount};
 pub use parts::{
     ConverterStation, ConverterTopology, DcBreaker, DcBreakerType, DcCable, DcFaultEvent,
     DcFaultType, SweepOrder, counted_submodules,
 };
 pub use simulator::{
     DcSwitchingSimulator, LEAST_DURATION_MS, LEAST_TIME_STEP_US, MOST_BREAKERS, MOST_CABLES,
-    MOST_STATIONS, present,
+    MOST_STATIONS,
 };

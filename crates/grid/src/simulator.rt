@@ -1,9 +1,10 @@
 // A grid with its time step and duration, by value.
-ghost use Rattle.std.specs.Prelude.{◌≡◌, min, cond};
+ghost use Rattle.std.specs.Prelude.{◌≡◌, cond};
 ghost use Rattle.float64.specs.Choice.{max_of};
 ghost use Rattle.ranges.specs.Ranges.{between};
-ghost use Rattle.grid.specs.Simulator.{new_simulator, with_station, with_cable, with_breaker};
+ghost use Rattle.grid.specs.Simulator.{new_simulator, with_station, with_cable, with_breaker, stations_of, cables_of, breakers_of};
 
+use crate::counts::{BreakerCount, CableCount, StationCount};
 use crate::parts::{ConverterStation, ConverterTopology, DcBreaker, DcBreakerType, DcCable};
 use ranges::{Range, in_range};
 
@@ -124,6 +125,30 @@ impl DcSwitchingSimulator {
         grid.n_breakers = breakers + 1;
         Some(grid)
     }
+
+    // The stations that there are.
+    pub fn present_stations(&self) -> &[ConverterStation]
+        ensures { result.now ≡ stations_of self.now }
+    {
+        let n = StationCount::of(self.n_stations);
+        &self.stations[..n.value]
+    }
+
+    // The cables that there are.
+    pub fn present_cables(&self) -> &[DcCable]
+        ensures { result.now ≡ cables_of self.now }
+    {
+        let n = CableCount::of(self.n_cables);
+        &self.cables[..n.value]
+    }
+
+    // The breakers that there are.
+    pub fn present_breakers(&self) -> &[DcBreaker]
+        ensures { result.now ≡ breakers_of self.now }
+    {
+        let n = BreakerCount::of(self.n_breakers);
+        &self.breakers[..n.value]
+    }
 }
 
 // What `new` keeps of a time step and a duration: one in its range is raised, and another is left for rule 4 to refuse.
@@ -135,11 +160,4 @@ fn kept(x: f64, least: f64, range: Range) -> f64
     } else {
         x
     }
-}
-
-// How many elements of an array a count speaks of.
-pub fn present(count: usize, length: usize) -> usize
-    ensures { result ≡ min count length }
-{
-    count.min(length)
 }

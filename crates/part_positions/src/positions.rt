@@ -4,39 +4,33 @@ ghost use Rattle.lists.specs.Scans.{passing};
 ghost use Rattle.part_checks.specs.PartChecks.{station_ok, cable_ok, breaker_ok};
 ghost use Rattle.grid.specs.Simulator.{stations_of, cables_of, breakers_of};
 
-use grid::{DcSwitchingSimulator, MOST_BREAKERS, MOST_CABLES, MOST_STATIONS, present};
+use grid::DcSwitchingSimulator;
 use part_checks::{check_breaker, check_cable, check_station};
 
-// The position of the first station that rule 6 refuses, or how many stations there are. The array is taken out of the grid first,
-// here and below, so that no call copies the rest.
+// The position of the first station that rule 6 refuses, or how many stations there are; a number and no Option, here and below, since the definition counts
+// those that pass before it.
 pub fn first_bad_station(g: DcSwitchingSimulator) -> usize
     ensures { result ≡ passing station_ok (stations_of g) }
 {
-    let n = present(g.n_stations, MOST_STATIONS);
-    let stations = g.stations;
-    first_bad(&stations[..n], |s| check_station(s))
+    first_bad(g.present_stations(), |s| check_station(s))
 }
 
 // The position of the first cable that rule 7 refuses, or how many cables there are.
 pub fn first_bad_cable(g: DcSwitchingSimulator) -> usize
     ensures { result ≡ passing cable_ok (cables_of g) }
 {
-    let n = present(g.n_cables, MOST_CABLES);
-    let cables = g.cables;
-    first_bad(&cables[..n], |c| check_cable(c))
+    first_bad(g.present_cables(), |c| check_cable(c))
 }
 
 // The position of the first breaker that rule 8 refuses, or how many breakers there are.
 pub fn first_bad_breaker(g: DcSwitchingSimulator) -> usize
     ensures { result ≡ passing breaker_ok (breakers_of g) }
 {
-    let n = present(g.n_breakers, MOST_BREAKERS);
-    let breakers = g.breakers;
-    first_bad(&breakers[..n], |b| check_breaker(b))
+    first_bad(g.present_breakers(), |b| check_breaker(b))
 }
 
 // The position of the first part that is not accepted, or how many parts there are: what `passing` is of any test `ok` that answers
-// as `accepts` does.
+// as `accepts` does. What is asked of `accepts` is the clause of every closure that is called.
 fn first_bad<T: Copy, F: Fn(T) -> bool>(parts: &[T], accepts: F) -> usize
     requires { F.IsAlwaysCallable accepts }
     ensures { (ok : _ → Bool) → ((x : _) (b : Bool) → F.post accepts x b → b ≡ ok x) → result ≡ passing ok parts.now }

@@ -2,10 +2,7 @@
 ghost use Rattle.std.specs.Prelude.{◌≡◌, ◌-◌};
 ghost use Rattle.timing.specs.Steps.{time_step_ms, duration_ms, steps_of, steps_of_quotient, counted_to, interval_of, recorded, records_of, record_length};
 
-use grid::{
-    DcSwitchingSimulator, LEAST_DURATION_MS, LEAST_TIME_STEP_US, MOST_BREAKERS, MOST_CABLES,
-    MOST_STATIONS, present,
-};
+use grid::{DcSwitchingSimulator, LEAST_DURATION_MS, LEAST_TIME_STEP_US};
 
 pub const MOST_STEPS: u64 = 1000000;
 
@@ -34,6 +31,7 @@ pub fn total_steps(g: DcSwitchingSimulator) -> u64
 fn steps_up_to_limit(q: f64) -> u64
     ensures { result ≡ counted_to (steps_of_quotient q) }
 {
+    // MOST_STEPS, as a double.
     if 1000000.0 < q {
         return MOST_STEPS + 1;
     }
@@ -73,7 +71,5 @@ pub fn recorded_steps(total_steps: u64) -> u64
 pub fn record_length(g: DcSwitchingSimulator) -> usize
     ensures { result ≡ record_length g }
 {
-    2 + 2 * present(g.n_stations, MOST_STATIONS)
-        + present(g.n_cables, MOST_CABLES)
-        + present(g.n_breakers, MOST_BREAKERS)
+    2 + 2 * g.present_stations().len() + g.present_cables().len() + g.present_breakers().len()
 }

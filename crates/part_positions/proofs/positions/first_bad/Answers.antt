@@ -4,11 +4,8 @@ use native.Mathlib.Omega.{arith}
 use lib.ListN.{length}
 use lib.Seq.{take_all}
 use Rattle.lists.specs.Scans.{every, passing}
-use Rattle.lists.proofs.Scanning.{more, passing_at, passing_all}
+use Rattle.lists.proofs.Scanning.{passing_at, passing_all}
 use Rattle.part_positions.proofs.positions.first_bad.Goals as goal
-
-pub loop-i-preserved : goal.loop-i-preserved
-loop-i-preserved g c = λ ok same. more ok _ c.args.parts.now c.loop-i.i (omega arith) (c.loop-i.invariant ok same) (sym (same _ _ c.if-not-accepts.ensures ∙ ap ok c.index-parts-i.is))
 
 pub returns-then-not-accepts : goal.returns-then-not-accepts
 returns-then-not-accepts g c = λ ok same.
