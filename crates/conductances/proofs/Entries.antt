@@ -1,5 +1,5 @@
 -- The conductance matrix: what stores leave in an entry, what a cable more makes of it, and that it is symmetric. Assumes nothing.
-use Prim.Native.Nat.{ℕ, ◌+◌, ◌/◌, ◌%◌, ◌≤◌, ◌<◌, min}
+use Prim.Native.Nat.{ℕ, ◌+◌, ◌/◌, ◌%◌, ◌≤◌, ◌<◌}
 use mathlib.Core.Path.{◌≡◌, refl, sym, ◌∙◌}
 use mathlib.Core.Bool.{Bool, true, false, ◌&&◌, cond}
 use mathlib.Core.Logic.{⊎_elim}
@@ -14,7 +14,7 @@ use Rattle.lists.specs.Tables.{tab, blank}
 use Rattle.lists.proofs.Fills.{is_tab, tab_same, length-tab, get_d_tab}
 use Rattle.lists.proofs.Folds.{fold_more}
 use Rattle.lists.proofs.Counting.{eq_or_ne}
-use Rattle.lists.proofs.Scanning.{and_second, take-cut}
+use Rattle.lists.proofs.Scanning.{and_second}
 use Rattle.float64.specs.Constants.{nought}
 use Rattle.grid.specs.declared.parts.DcCable.{DcCable}
 use Rattle.grid.specs.declared.simulator.DcSwitchingSimulator.{DcSwitchingSimulator}
@@ -138,10 +138,6 @@ matrix_symmetric n cables l i j li lj =
     matrix-cell n cables i j (omega arith) (omega arith) ∙ entry_swaps n cables i j ∙ sym (matrix-cell n cables j i (omega arith) (omega arith))
 
 -- ---- a grid's matrix
-
--- from counts that are cut
-pub of_grid : (g : DcSwitchingSimulator) {n k : ℕ} → length g.cables ≡ 64 → n ≡ min g.n_stations 32 → k ≡ min g.n_cables 64 → matrix n (take k g.cables) ≡ conductances_of g
-of_grid g {n} {k} long n_is k-is = rw (n_is, take-cut g.cables g.n_cables 64 k long k-is)
 
 pub of_grid_symmetric : (g : DcSwitchingSimulator) → Symmetric (station_count g.n_stations) (conductances_of g)
 of_grid_symmetric g = matrix_symmetric (station_count g.n_stations) (cables_of g) (omega arith)

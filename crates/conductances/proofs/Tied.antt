@@ -9,9 +9,9 @@ use Rattle.conductances.specs.contracts.conductances.conductances_of as matrix-c
 use Rattle.conductances.proofs.conductances.conductances_of.Kinds as matrix-kinds
 use Rattle.conductances.proofs.conductances.conductances_of.Reads as matrix-reads
 
-module _ (κs : Lfts 0) (a : ArgsD matrix-contract.signature κs) (r : ResD matrix-contract.signature κs) (e : AtExit (ended_of 0 matrix-kinds.ps matrix-kinds.r) κs) where
+module _ (κs : Lfts 1) (a : ArgsD matrix-contract.signature κs) (r : ResD matrix-contract.signature κs) (e : AtExit (ended_of 1 matrix-kinds.ps matrix-kinds.r) κs) where
   pub matrix_any : matrix-reads.Asked κs a
   matrix_any = tt
 
-  pub matrix_is : matrix-reads.Learnt κs a r e → r ≡ conductances_of a.0
+  pub matrix_is : matrix-reads.Learnt κs a r e → r ≡ conductances_of a.0.now
   matrix_is h = h

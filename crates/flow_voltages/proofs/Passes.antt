@@ -1,15 +1,18 @@
 -- The passes, one by one. Assumes nothing.
-use Prim.Native.Nat.{ℕ, suc, ◌+◌, ◌-◌, ◌≤◌, ◌<◌}
-use mathlib.Core.Path.{◌≡◌, sym}
+use Prim.Native.Nat.{ℕ, zero, suc, ◌+◌, ◌-◌, ◌≤◌, ◌<◌}
+use mathlib.Core.Path.{◌≡◌, refl, sym}
 use mathlib.Core.Bool.{true, false, cond}
 use mathlib.Core.List.{List}
 use native.Mathlib.Omega.{arith}
 use lib.Dec.{eqb}
 use lib.Ieee.{Float, nan, lt}
+use lib.ListN.{length, take}
+use lib.Seq.{length-take-le}
+use Rattle.std.proofs.lemmas.List.{get_or-take}
 use Rattle.lists.proofs.Fills.{padded_same, get_d_padded}
 use Rattle.float64.specs.Constants.{nought}
 use Rattle.float64.specs.Arithmetic.{◌⊖◌, ◌⊗◌, of}
-use Rattle.flow_voltages.specs.Balance.{current, currents, power, but_first, mismatches}
+use Rattle.flow_voltages.specs.Balance.{current, currents, power, but_first, mismatches, largest}
 use Rattle.flow_voltages.specs.Constants.{tolerance}
 use Rattle.voltage_moves.specs.Moves.{moved_all}
 use Rattle.flow_voltages.specs.Voltages.{largest_at, after, passes}
@@ -20,6 +23,14 @@ unfolding but_first
 mismatches_are m p n v l =
     padded_same 32 n (λ i. cond (eqb i 0) nought (of p i ⊖ of v i ⊗ of (currents m n v) i)) (λ i. cond (eqb i 0) nought (of p i ⊖ power m n v i)) nought
     (λ k lk. rw (get_d_padded 32 n (current m n v) nought nan k lk l))
+
+-- the largest mismatch of the stations that there are
+largest_front : (d : List Float) (n k : ℕ) → k ≤ n - 1 → largest (take n d) k ≡ largest d k
+largest_front d n zero l = refl
+largest_front d n (suc k) l = rw (largest_front d n k (omega arith), get_or-take n d (suc k) nan (omega arith))
+
+pub largest_present : (d : List Float) (n : ℕ) → n ≤ length d → largest (take n d) (length (take n d) - 1) ≡ largest d (n - 1)
+largest_present d n l = rw (length-take-le n d l) (largest_front d n (n - 1) (omega arith))
 
 module _ (m : List Float) (n : ℕ) (rated p : List Float) where
   -- none left

@@ -20,12 +20,12 @@ module _ (κs : Lfts 0) (a : ArgsD find-contract.signature κs) (r : ResD find-c
   pub find_is : find-reads.Learnt κs a r e → r ≡ voltages_of a.0
   find_is h = h
 
-module _ (κs : Lfts 0) (a : ArgsD with-currents-contract.signature κs) (r : ResD with-currents-contract.signature κs) (e : AtExit (ended_of 0 with-currents-kinds.ps with-currents-kinds.r) κs) where
+module _ (κs : Lfts 1) (a : ArgsD with-currents-contract.signature κs) (r : ResD with-currents-contract.signature κs) (e : AtExit (ended_of 1 with-currents-kinds.ps with-currents-kinds.r) κs) where
   pub with_currents_any : with-currents-reads.Asked κs a
   with_currents_any = tt
 
-  pub with_currents-found : with-currents-reads.Learnt κs a r e → r.voltages ≡ voltages_of a.0
+  pub with_currents-found : with-currents-reads.Learnt κs a r e → r.voltages ≡ voltages_of a.0.now
   with_currents-found h = h.0
 
-  pub with_currents_are : with-currents-reads.Learnt κs a r e → r.i_dc_ka ≡ currents_of a.0 r.voltages.v_dc_kv
+  pub with_currents_are : with-currents-reads.Learnt κs a r e → r.i_dc_ka ≡ currents_of a.0.now r.voltages.v_dc_kv
   with_currents_are h = rw h.0 h.1

@@ -1,83 +1,87 @@
-// Currents, powers and mismatches at given voltages.
-ghost use Rattle.std.specs.Prelude.{◌≡◌, ◌≤◌, ◌<◌, ◌-◌};
+// Currents and mismatches at given voltages.
+ghost use Rattle.std.specs.Prelude.{◌≡◌, ◌<◌, ◌-◌, length};
 ghost use Rattle.std.specs.Float.{nan};
-ghost use Rattle.lists.specs.Tables.{blank, over};
-ghost use Rattle.float64.specs.Constants.{nought};
-ghost use Rattle.float64.specs.Arithmetic.{◌⊕◌, ◌⊖◌, ◌⊗◌, of};
+ghost use Rattle.lists.specs.Tables.{over};
+ghost use Rattle.float64.specs.Arithmetic.{◌⊕◌, ◌⊗◌, of};
+ghost use Rattle.grid.specs.Simulator.{station_count};
+ghost use Rattle.conductances.specs.Conductances as specs;
 ghost use Rattle.conductances.specs.Conductances.{cell};
-ghost use Rattle.flow_voltages.specs.Balance.{currents, but_first, mismatches, largest};
 ghost use Rattle.conductances.specs.Symmetric.{Symmetric};
+ghost use Rattle.flow_voltages.specs.Balance.{currents, mismatches, largest};
 
+use conductances::conductances_of;
 use float64::{abs, max};
-use grid::MOST_STATIONS;
+use grid::{DcSwitchingSimulator, MOST_STATIONS, StationCount};
 
-// The current of every station, into zeros. Column after column: for each station the products are added in the same order as along its
-// row, and a column is added to all stations at once.
-pub fn station_currents(
-    sums: &mut [f64; MOST_STATIONS],
-    m: &[f64; 1024],
-    v: &[f64; MOST_STATIONS],
-    n: usize,
-)
-    requires { (n ≤ 32) × Symmetric n m.now × (sums.old ≡ blank 32 nought) }
-    ensures { sums.new ≡ currents m.now n v.now }
+// The conductances between the stations that there are.
+#[derive(Clone, Copy)]
+pub struct Conductances {
+    pub n: StationCount,
+    pub entries: [f64; 1024],
+    ghost symmetric: { Symmetric n.value entries },
+}
+
+impl Conductances {
+    // Those of any grid, accepted or not.
+    #[tactic(auto, using(conductances::proofs::Entries::of_grid_symmetric))]
+    pub fn of(g: &DcSwitchingSimulator) -> Self
+        ensures n { result.n.value ≡ station_count g.now.n_stations }
+        ensures entries { result.entries ≡ specs.conductances_of g.now }
+    {
+        Conductances {
+            n: StationCount::of(g.n_stations),
+            entries: conductances_of(g),
+        }
+    }
+}
+
+// The current of every station. Column after column: for each station the products are added in the same order as along its row, and a column is added to
+// all stations at once. What stood in the array before is gone: it is lent, since a flow of two stations took three times as long where such arrays were returned, and copied in every pass.
+#[tactic(auto, using(crate::proofs::Columns::column_none), unfolding(crate::specs::Balance::current, lists::specs::Tables::blank))]
+pub fn station_currents(sums: &mut [f64; MOST_STATIONS], m: &Conductances, v: &[f64; MOST_STATIONS])
+    ensures { sums.new ≡ currents m.now.entries m.now.n.value v.now }
 {
-    for j in 0..n {
-        add_column(sums, m, j, v[j], n);
+    *sums = [0.0; MOST_STATIONS];
+    for j in 0..m.n.value {
+        add_column(sums, m, j, v[j]);
     }
 }
 
 // Adds the products of one column with the voltage x. The matrix is symmetric, so its row j is read.
-fn add_column(sums: &mut [f64; MOST_STATIONS], m: &[f64; 1024], j: usize, x: f64, n: usize)
-    requires { (j < 32) × (n ≤ 32) }
-    ensures { sums.new ≡ over n (λ i. of sums.old i ⊕ cell m.now j i ⊗ x) nan sums.old }
+#[tactic(auto, using(lists::proofs::Fills::upto_none, lists::proofs::Fills::upto_more, lists::proofs::Fills::upto_over, lists::proofs::Fills::get_d_upto_out))]
+fn add_column(sums: &mut [f64; MOST_STATIONS], m: &Conductances, j: usize, x: f64)
+    requires { j < m.now.n.value }
+    ensures { sums.new ≡ over m.now.n.value (λ i. of sums.old i ⊕ cell m.now.entries j i ⊗ x) nan sums.old }
 {
-    for i in 0..n {
-        sums[i] = sums[i] + m[j * MOST_STATIONS + i] * x;
+    for i in 0..m.n.value {
+        sums[i] += m.entries[j * MOST_STATIONS + i] * x;
     }
 }
 
-// What the power of each station but the first lacks at given voltages, into zeros; and the largest of it.
+// What the power of each station but the first lacks at given voltages, whatever stood in the array before.
+#[tactic(auto, using(crate::proofs::Turns::later, lists::proofs::Fills::upto_more))]
 pub fn mismatches_at(
     d: &mut [f64; MOST_STATIONS],
-    m: &[f64; 1024],
+    m: &Conductances,
     wanted: &[f64; MOST_STATIONS],
     v: &[f64; MOST_STATIONS],
-    n: usize,
-) -> f64
-    requires { (n ≤ 32) × Symmetric n m.now × (d.old ≡ blank 32 nought) }
-    ensures memory { d.new ≡ mismatches m.now wanted.now n v.now }
-    ensures answer { result ≡ largest (mismatches m.now wanted.now n v.now) (n - 1) }
+)
+    ensures { d.new ≡ mismatches m.now.entries wanted.now m.now.n.value v.now }
 {
     let mut currents = [0.0; MOST_STATIONS];
-    station_currents(&mut currents, m, v, n);
-    power_mismatches(d, wanted, v, &currents, n);
-    largest_mismatch(d, n)
-}
-
-// The same mismatches, from the stations' currents.
-fn power_mismatches(
-    d: &mut [f64; MOST_STATIONS],
-    wanted: &[f64; MOST_STATIONS],
-    v: &[f64; MOST_STATIONS],
-    currents: &[f64; MOST_STATIONS],
-    n: usize,
-)
-    requires { (n ≤ 32) × (d.old ≡ blank 32 nought) }
-    ensures { d.new ≡ but_first n (λ i. of wanted.now i ⊖ of v.now i ⊗ of currents.now i) }
-{
-    for i in 1..n {
+    station_currents(&mut currents, m, v);
+    *d = [0.0; MOST_STATIONS];
+    for i in 1..m.n.value {
         d[i] = wanted[i] - v[i] * currents[i];
     }
 }
 
 // The largest size of a mismatch; 0 where there is one station. A NaN is passed over.
-fn largest_mismatch(d: &[f64; MOST_STATIONS], n: usize) -> f64
-    requires { n ≤ 32 }
-    ensures { result ≡ largest d.now (n - 1) }
+pub fn largest_mismatch(d: &[f64]) -> f64
+    ensures { result ≡ largest d.now (length d.now - 1) }
 {
     let mut most = 0.0;
-    for i in 1..n {
+    for i in 1..d.len() {
         most = max(most, abs(d[i]));
     }
     most

@@ -1,18 +1,15 @@
 // The voltages, pass by pass.
-ghost use Rattle.std.specs.Prelude.{◌≡◌, ◌≤◌, cond, eqb};
+ghost use Rattle.std.specs.Prelude.{◌≡◌, cond, eqb};
 ghost use Rattle.std.specs.Float.Ieee.{neg};
-ghost use Rattle.lists.specs.Tables.{blank};
-ghost use Rattle.flow_voltages.specs.Constants.{loading};
 ghost use Rattle.float64.specs.Constants.{nought};
 ghost use Rattle.float64.specs.Arithmetic.{◌⊗◌};
-ghost use Rattle.conductances.specs.Symmetric.{Symmetric};
+ghost use Rattle.grid.specs.Simulator.{station_count};
+ghost use Rattle.flow_voltages.specs.Constants.{loading, most_passes};
 ghost use Rattle.flow_voltages.specs.Balance.{wanted_powers, currents_of};
-ghost use Rattle.flow_voltages.specs.Voltages as specs;
-ghost use Rattle.flow_voltages.specs.Voltages.{rated_voltages, voltages_of};
+ghost use Rattle.flow_voltages.specs.Voltages.{passes, rated_voltages, voltages_of};
 
-use crate::balance::{mismatches_at, station_currents};
-use conductances::conductances_of;
-use grid::{ConverterStation, DcSwitchingSimulator, MOST_STATIONS, present};
+use crate::balance::{Conductances, largest_mismatch, mismatches_at, station_currents};
+use grid::{DcSwitchingSimulator, MOST_STATIONS, StationCount};
 use voltage_moves::move_voltages;
 
 // The part of its rated power that a station takes.
@@ -49,37 +46,37 @@ struct Outcome {
 pub fn find_voltages(g: DcSwitchingSimulator) -> Voltages
     ensures { result ≡ voltages_of g }
 {
-    let found = find_with_currents(g);
+    let found = find_with_currents(&g);
     found.voltages
 }
 
 // The same, with the stations' currents at these voltages, from the same conductances.
-pub fn find_with_currents(g: DcSwitchingSimulator) -> Found
-    ensures voltages { result.voltages ≡ voltages_of g }
-    ensures currents { result.i_dc_ka ≡ currents_of g (voltages_of g).v_dc_kv }
+#[tactic(auto, unfolding(crate::specs::Voltages::voltages))]
+pub fn find_with_currents(g: &DcSwitchingSimulator) -> Found
+    ensures voltages { result.voltages ≡ voltages_of g.now }
+    ensures currents { result.i_dc_ka ≡ currents_of g.now (voltages_of g.now).v_dc_kv }
 {
-    let n = present(g.n_stations, MOST_STATIONS);
-    let stations = g.stations;
-    let m = conductances_of(g);
-    let voltages = run_passes(stations, n, &m);
-    let v = voltages.v_dc_kv;
-    let mut sums = [0.0; MOST_STATIONS];
-    station_currents(&mut sums, &m, &v, n);
-    Found {
-        voltages,
-        i_dc_ka: sums,
-    }
+    let m = Conductances::of(g);
+    let mut rated = [0.0; MOST_STATIONS];
+    let mut wanted = [0.0; MOST_STATIONS];
+    read_ratings(&mut rated, &mut wanted, g);
+    let voltages = run_passes(&m, &rated, &wanted);
+    let mut i_dc_ka = [0.0; MOST_STATIONS];
+    station_currents(&mut i_dc_ka, &m, &voltages.v_dc_kv);
+    Found { voltages, i_dc_ka }
 }
 
 // Passes from the rated voltages on, until all mismatches are below TOLERANCE or 50 passes are made. Station 0 holds its voltage, the others their power.
-fn run_passes(stations: [ConverterStation; MOST_STATIONS], n: usize, m: &[f64; 1024]) -> Voltages
-    requires { (n ≤ 32) × Symmetric n m.now }
-    ensures { result ≡ specs.voltages stations n m.now }
+#[tactic(auto, using(crate::proofs::Passes::passes_out, crate::proofs::Passes::turn_hit, crate::proofs::Passes::turn_on, crate::proofs::Passes::largest_present))]
+fn run_passes(
+    m: &Conductances,
+    rated: &[f64; MOST_STATIONS],
+    wanted: &[f64; MOST_STATIONS],
+) -> Voltages
+    ensures { result ≡ passes m.now.entries m.now.n.value rated.now wanted.now most_passes 0 rated.now }
 {
-    let mut rated = [0.0; MOST_STATIONS];
-    let mut wanted = [0.0; MOST_STATIONS];
-    read_ratings(&mut rated, &mut wanted, stations, n);
-    let mut v = rated;
+    let mut v = *rated;
+    let mut d = [0.0; MOST_STATIONS];
     let mut passes = 0;
     // A loop that is left by break, as the scope document has it.
     let outcome = loop {
@@ -89,8 +86,8 @@ fn run_passes(stations: [ConverterStation; MOST_STATIONS], n: usize, m: &[f64; 1
                 iterations: passes,
             };
         }
-        let mut d = [0.0; MOST_STATIONS];
-        let largest = mismatches_at(&mut d, m, &wanted, &v, n);
+        mismatches_at(&mut d, m, wanted, &v);
+        let largest = largest_mismatch(&d[..m.n.value]);
         passes += 1;
         if largest < TOLERANCE {
             break Outcome {
@@ -98,7 +95,7 @@ fn run_passes(stations: [ConverterStation; MOST_STATIONS], n: usize, m: &[f64; 1
                 iterations: passes,
             };
         }
-        move_voltages(&mut v, &rated, &d, m, n);
+        move_voltages(&mut v, rated, &d, &m.entries, m.n.value);
     };
     Voltages {
         v_dc_kv: v,
@@ -107,19 +104,22 @@ fn run_passes(stations: [ConverterStation; MOST_STATIONS], n: usize, m: &[f64; 1
     }
 }
 
-// The voltages that the passes begin at and the powers that they look for, into zeros.
+// The voltages that the passes begin at and the powers that they look for, of any grid, whatever stood in the arrays before. Returned in a struct they are copied, and a flow of two
+// stations takes a tenth to a fifth longer.
+#[tactic(auto, using(lists::proofs::Fills::upto_none, lists::proofs::Fills::upto_more, lists::proofs::Fills::get_d_within), unfolding(lists::specs::Tables::blank))]
 fn read_ratings(
     rated: &mut [f64; MOST_STATIONS],
     wanted: &mut [f64; MOST_STATIONS],
-    stations: [ConverterStation; MOST_STATIONS],
-    n: usize,
+    g: &DcSwitchingSimulator,
 )
-    requires { (n ≤ 32) × (rated.old ≡ blank 32 nought) × (wanted.old ≡ blank 32 nought) }
-    ensures rated { rated.new ≡ rated_voltages stations n }
-    ensures wanted { wanted.new ≡ wanted_powers stations n }
+    ensures rated { rated.new ≡ rated_voltages g.now.stations (station_count g.now.n_stations) }
+    ensures wanted { wanted.new ≡ wanted_powers g.now.stations (station_count g.now.n_stations) }
 {
-    for i in 0..n {
-        let s = stations[i];
+    let n = StationCount::of(g.n_stations);
+    *rated = [0.0; MOST_STATIONS];
+    *wanted = [0.0; MOST_STATIONS];
+    for i in 0..n.value {
+        let s = g.stations[i];
         rated[i] = s.v_dc_rated_kv;
         wanted[i] = wanted_power(i, s.p_rated_mw);
     }

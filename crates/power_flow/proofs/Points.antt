@@ -2,30 +2,19 @@
 use Prim.Native.Nat.{ℕ, zero, suc, ◌≤◌, ◌<◌}
 use native.Mathlib.Omega.{arith}
 use mathlib.Core.Path.{◌≡◌, refl, ◌∙◌}
-use mathlib.Core.Bool.{false}
 use mathlib.Core.List.{List}
-use Rattle.grid.specs.declared.parts.ConverterTopology.{ConverterTopology}
-use Rattle.grid.specs.declared.parts.ConverterTopology.TheVariants.{Lcc, TwoLevelVsc, Mmc, Hybrid}
 use lib.ListN.{get_or}
 use lib.Ieee.{Float, nan}
 use Rattle.lists.specs.Tables.{padded}
 use Rattle.lists.proofs.Fills.{padded_same, get_d_padded}
 use Rattle.float64.specs.Constants.{nought}
-use Rattle.float64.specs.Arithmetic.{added_up, sum_of, of}
+use Rattle.float64.specs.Arithmetic.{added_up, of}
 use Rattle.grid.specs.Simulator.{blank_station}
 use Rattle.grid.specs.declared.parts.ConverterStation.{ConverterStation}
 use Rattle.converter.specs.declared.point.ConverterOperatingPoint.{ConverterOperatingPoint}
 use Rattle.converter.specs.Point.{blank_point}
 use Rattle.flow_voltages.specs.Balance.{current, currents}
-use Rattle.power_flow.specs.Solution.{is_lcc, operating_point, point_of, operating_points}
-
--- a topology that is not an LCC's
-pub not_lcc : (t : ConverterTopology) → (t ≡ Lcc → ⊥) → false ≡ is_lcc t
-unfolding is_lcc
-not_lcc Lcc n = absurd (n refl)
-not_lcc TwoLevelVsc n = refl
-not_lcc (Mmc k) n = refl
-not_lcc Hybrid n = refl
+use Rattle.power_flow.specs.Solution.{operating_point, point_of, operating_points}
 
 -- what the code computes of them, and their losses
 module _ (stations : List ConverterStation) (n : ℕ) (m v : List Float) {i : List Float} (l : n ≤ 32) (currents-are : i ≡ currents m n v) where
@@ -41,8 +30,3 @@ module _ (stations : List ConverterStation) (n : ℕ) (m v : List Float) {i : Li
 
   pub total_from : (s : Float) {t : Float} → t ≡ added_up s (λ k. (operating_point (get_or stations k blank_station) (of v k) (of i k)).losses_mw) n → t ≡ added_up s (λ k. (point_of stations n m v k).losses_mw) n
   total_from s e = e ∙ losses_are s n (omega arith)
-
--- a sum of what stands in an array is the sum of what was put there
-pub sum-padded : (m k : ℕ) (f : ℕ → Float) → k ≤ m → (j : ℕ) → j ≤ k → sum_of (of (padded m k f nought)) j ≡ sum_of f j
-sum-padded m k f l zero h = refl
-sum-padded m k f l (suc j) h = rw (sum-padded m k f l j (omega arith), get_d_padded m k f nought nan j h l)

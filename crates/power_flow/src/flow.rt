@@ -7,7 +7,7 @@ ghost use Rattle.power_flow.specs.Flow.{solution_at, blank_solution, flow_answer
 use crate::solution;
 use converter::{ConverterOperatingPoint, no_point};
 use flow_voltages::{Found, find_with_currents};
-use grid::{DcSwitchingSimulator, MOST_CABLES, MOST_STATIONS, present};
+use grid::{DcSwitchingSimulator, MOST_CABLES, MOST_STATIONS};
 use rules::{Refusal, check_flow};
 
 // 000's solution, which stands where it has not converged too. What stands past the counts is zeros.
@@ -27,33 +27,25 @@ pub fn solve_dc_power_flow(g: DcSwitchingSimulator) -> Result<DcGridSolution, Re
     ensures solution { IfOk result (λ solution. solution ≡ flow_answer g) }
 {
     check_flow(g)?;
-    let found = find_with_currents(g);
-    Ok(solution_at(g, found))
+    let found = find_with_currents(&g);
+    Ok(solution_at(&g, &found))
 }
 
 // Operating points and losses of any grid at voltages: the cables' losses, then the stations'.
-fn solution_at(g: DcSwitchingSimulator, found: Found) -> DcGridSolution
-    requires { found.i_dc_ka ≡ currents_of g found.voltages.v_dc_kv }
-    ensures { result ≡ solution_at g found.voltages }
+fn solution_at(g: &DcSwitchingSimulator, found: &Found) -> DcGridSolution
+    requires { found.now.i_dc_ka ≡ currents_of g.now found.now.voltages.v_dc_kv }
+    ensures { result ≡ solution_at g.now found.now.voltages }
 {
-    let n = present(g.n_stations, MOST_STATIONS);
-    let n_cables = present(g.n_cables, MOST_CABLES);
-    let stations = g.stations;
-    let cables = g.cables;
-    let voltages = found.voltages;
-    let v = voltages.v_dc_kv;
-    let mut losses = [0.0; MOST_CABLES];
-    solution::cable_losses(&mut losses, cables, n_cables, &v, n);
-    let total = solution::sum_losses(&losses, n_cables);
-    let currents = found.i_dc_ka;
-    let made = solution::operating_points(stations, &v, &currents, n, total);
-    let points = made.points;
+    let mut cable_losses_mw = [0.0; MOST_CABLES];
+    let total = solution::cable_losses(&mut cable_losses_mw, g, &found.voltages.v_dc_kv);
+    let made = solution::operating_points(g, found, total);
+    let operating_points = made.points;
     DcGridSolution {
-        operating_points: points,
-        cable_losses_mw: losses,
+        operating_points,
+        cable_losses_mw,
         total_losses_mw: made.total_losses_mw,
-        converged: voltages.converged,
-        iterations: voltages.iterations,
+        converged: found.voltages.converged,
+        iterations: found.voltages.iterations,
     }
 }
 

@@ -1,5 +1,3 @@
--- One turn of each loop over the stations
-pub mod Turns
 -- The contracts in src/ ask nothing of a caller
 pub mod Tied
 -- Worked examples of the definitions

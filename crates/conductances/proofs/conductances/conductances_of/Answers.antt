@@ -1,19 +1,13 @@
 -- `conductances_of` meets its contract. Assumes nothing.
-use Rattle.conductances.proofs.Entries.{of_grid}
+use Rattle.conductances.proofs.Entries.{matrix-none, matrix_more}
 use Rattle.lists.specs.Tables.{blank}
-use Rattle.lists.proofs.Scanning.{unmapped}
-use native.Mathlib.Omega.{arith}
-use mathlib.Core.Path.{◌≡◌, refl, ◌∙◌}
-use lib.ListN.{length}
-use borrow.Author.Rules.{rules}
+use mathlib.Core.Path.{◌∙◌}
 use Rattle.conductances.proofs.conductances.conductances_of.Goals as goal
 
-pub conductances-requires : goal.conductances-requires
+pub loop-c-init : goal.loop-c-init
 unfolding blank
-conductances-requires c =
-    (omega (arith, c.present-n_cables.ensures), omega (arith, c.present-n.ensures), refl)
+loop-c-init c = matrix-none c.of-n.result.value
 
-pub returns : goal.returns
-returns c =
-    let long : length c.args.g.cables ≡ 64 = search (rules, unmapped) in
-    c.conductances.ensures ∙ of_grid c.args.g (long) c.present-n.ensures c.present-n_cables.ensures
+pub loop-c-preserved : goal.loop-c-preserved
+loop-c-preserved c =
+    c.connect.ensures ∙ rw c.loop-c.invariant (matrix_more c.of-n.result.value _ c.present_cables-cables.result.now c.loop-c.c-index c.loop-c-test.true)

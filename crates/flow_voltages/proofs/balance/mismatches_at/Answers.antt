@@ -1,15 +1,19 @@
 -- `mismatches_at` meets its contract. Assumes nothing.
 use Rattle.flow_voltages.proofs.Passes.{mismatches_are}
-use Rattle.flow_voltages.specs.Balance.{mismatches}
+use Rattle.flow_voltages.proofs.Turns.{filled}
 use Rattle.lists.specs.Tables.{blank}
-use mathlib.Core.Path.{◌≡◌, refl, ◌∙◌}
+use Rattle.float64.specs.Arithmetic.{◌⊖◌, ◌⊗◌, of}
+use Rattle.float64.specs.Constants.{nought}
+use native.Mathlib.Omega.{arith}
+use mathlib.Core.Path.{refl, ◌∙◌}
+use Rattle.lists.proofs.Fills.{upto_first}
 use Rattle.flow_voltages.proofs.balance.mismatches_at.Goals as goal
 
-pub station_currents-requires : goal.station_currents-requires
+pub loop-i-init : goal.loop-i-init
 unfolding blank
-station_currents-requires c = (c.requires.0, c.requires.1, refl)
+loop-i-init c = (omega arith, upto_first 32 _ nought refl)
 
 pub returns : goal.returns
 returns c =
-    let d-are : _ ≡ mismatches c.args.m.now c.args.wanted.now c.args.n c.args.v.now = c.power_mismatches.ensures ∙ rw c.station_currents.ensures (mismatches_are c.args.m.now c.args.wanted.now c.args.n c.args.v.now c.requires.0) in
-    record { memory = d-are; answer = c.largest_mismatch.ensures ∙ rw d-are }
+    filled c.args.m.now.n.value c.loop-i.i (λ k. of c.args.wanted.now k ⊖ of c.args.v.now k ⊗ of c.station_currents.new.sums k) c.args.m.now.n.fits c.loop-i.auto.i c.loop-i.invariant.0 c.loop-i-test.false c.loop-i.invariant.1
+    ∙ rw c.station_currents.ensures (mismatches_are c.args.m.now.entries c.args.wanted.now c.args.m.now.n.value c.args.v.now c.args.m.now.n.fits)

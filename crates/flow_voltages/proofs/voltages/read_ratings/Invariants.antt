@@ -14,4 +14,4 @@ use Rattle.flow_voltages.proofs.voltages.read_ratings.Given as goal
 
 abbrev pub invariant-loop-i : goal.invariant-loop-i
 invariant-loop-i l =
-    (l.rated ≡ upto l.i (λ k. (get_or l.stations k blank_station).v_dc_rated_kv) (blank 32 nought)) × (l.wanted ≡ upto l.i (λ k. cond (eqb k 0) nought (neg (get_or l.stations k blank_station).p_rated_mw ⊗ loading)) (blank 32 nought))
+    (l.rated ≡ upto l.i (λ k. (get_or l.g.stations k blank_station).v_dc_rated_kv) (blank 32 nought)) × (l.wanted ≡ upto l.i (λ k. cond (eqb k 0) nought (neg (get_or l.g.stations k blank_station).p_rated_mw ⊗ loading)) (blank 32 nought))

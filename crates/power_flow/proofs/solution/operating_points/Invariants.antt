@@ -11,4 +11,4 @@ use Rattle.power_flow.proofs.solution.operating_points.Given as goal
 
 abbrev pub invariant-loop-i : goal.invariant-loop-i
 invariant-loop-i l =
-    (l.points ≡ upto l.i (λ k. operating_point (get_or l.stations k blank_station) (of l.v k) (of l.currents k)) (blank 32 blank_point)) × (l.total ≡ added_up l.losses (λ k. (operating_point (get_or l.stations k blank_station) (of l.v k) (of l.currents k)).losses_mw) l.i)
+    (l.points ≡ upto l.i (λ k. operating_point (get_or l.g.stations k blank_station) (of l.found.voltages.v_dc_kv k) (of l.found.i_dc_ka k)) (blank 32 blank_point)) × (l.total ≡ added_up l.losses (λ k. (operating_point (get_or l.g.stations k blank_station) (of l.found.voltages.v_dc_kv k) (of l.found.i_dc_ka k)).losses_mw) l.i)
