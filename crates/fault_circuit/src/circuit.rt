@@ -41,6 +41,7 @@ pub struct FaultCircuit {
 }
 
 // The circuit of any fault on any grid, worked out once for a run: the root is taken here, and not in each step.
+#[tactic(auto, unfolding(crate::specs::Circuit::circuit_at))]
 pub fn fault_circuit(g: DcSwitchingSimulator, fault: DcFaultEvent) -> FaultCircuit
     ensures { result ≡ circuit_of g fault }
 {
@@ -59,6 +60,7 @@ pub fn fault_circuit(g: DcSwitchingSimulator, fault: DcFaultEvent) -> FaultCircu
 }
 
 // Which response the circuit has by its damping, and with which constants.
+#[tactic(auto, unfolding(crate::specs::Circuit::response_of))]
 fn response_of(p: RlcParameters) -> Response
     ensures { result ≡ response_of p }
 {
@@ -74,6 +76,7 @@ fn response_of(p: RlcParameters) -> Response
 }
 
 // A current that swings; Still where it would swing too slowly to divide by the frequency.
+#[tactic(auto, unfolding(crate::specs::Circuit::underdamped_response))]
 fn underdamped_response(v: f64, l: f64, alpha: f64, omega0_sq: f64) -> Response
     ensures { result ≡ specs.underdamped_response v l alpha omega0_sq }
 {
@@ -89,6 +92,7 @@ fn underdamped_response(v: f64, l: f64, alpha: f64, omega0_sq: f64) -> Response
 }
 
 // A current that does not swing: two roots, or one (Critical) where they are too near to each other to divide by their distance.
+#[tactic(auto, unfolding(crate::specs::Circuit::overdamped_response))]
 fn overdamped_response(v: f64, l: f64, alpha: f64, omega0_sq: f64) -> Response
     ensures { result ≡ specs.overdamped_response v l alpha omega0_sq }
 {
@@ -113,6 +117,7 @@ fn resistance_factor(p: RlcParameters) -> f64
 }
 
 // The factor of the fault's type on the current, a number of 000's for each: pole to pole has the most.
+#[tactic(auto, unfolding(crate::specs::Circuit::type_factor))]
 fn type_factor(kind: DcFaultType) -> f64
     ensures { result ≡ type_factor kind }
 {

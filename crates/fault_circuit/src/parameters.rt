@@ -1,13 +1,13 @@
 // The circuit's parameters: the cable up to the fault, the station that feeds it, and the capacitance of all stations.
-ghost use Rattle.std.specs.Prelude.{◌≡◌, ◌≤◌, get_or};
+ghost use Rattle.std.specs.Prelude.{◌≡◌, get_or, length};
 ghost use Rattle.float64.specs.Arithmetic.{sum_of};
 ghost use Rattle.grid.specs.Simulator.{blank_station};
 ghost use Rattle.fault_circuit.specs.Parameters.{parameters_at, parameters_of};
 
 use float64::{clamp, max};
 use grid::{
-    ConverterStation, DcCable, DcFaultEvent, DcSwitchingSimulator, MOST_CABLES, MOST_STATIONS,
-    cut_end, present,
+    CableCount, ConverterStation, DcCable, DcFaultEvent, DcSwitchingSimulator, StationCount,
+    cut_end,
 };
 
 #[derive(Clone, Copy)]
@@ -23,17 +23,16 @@ pub struct RlcParameters {
 pub fn fault_rlc_params(g: DcSwitchingSimulator, fault: DcFaultEvent) -> RlcParameters
     ensures { result ≡ parameters_of g fault }
 {
-    let cables = g.cables;
-    let stations = g.stations;
-    let n = present(g.n_stations, MOST_STATIONS);
-    let k = cut_end(fault.location_cable_id, present(g.n_cables, MOST_CABLES));
-    let cable = cables[k];
-    let from = cut_end(cable.from_station, n);
-    let station = stations[from];
-    parameters_at(cable, station, capacitance_of(stations, n), fault)
+    let n = StationCount::of(g.n_stations).value;
+    let m = CableCount::of(g.n_cables).value;
+    // Without cables or stations the first place of the array is read, which is no part of the grid.
+    let cable = g.cables[cut_end(fault.location_cable_id, m)];
+    let station = g.stations[cut_end(cable.from_station, n)];
+    parameters_at(cable, station, capacitance_of(g.present_stations()), fault)
 }
 
 // The circuit of a fault on a cable that a station feeds. The cable's resistance and inductance count up to the fault, its capacitance whole. 1 mH is for smoothing.
+#[tactic(auto, unfolding(crate::specs::Parameters::parameters_at))]
 fn parameters_at(
     cable: DcCable,
     station: ConverterStation,
@@ -52,14 +51,13 @@ fn parameters_at(
     }
 }
 
-// The submodule capacitances of n stations, added up in their order.
-fn capacitance_of(stations: [ConverterStation; MOST_STATIONS], n: usize) -> f64
-    requires { n ≤ MOST_STATIONS }
-    ensures { result ≡ sum_of (λ k. (get_or stations k blank_station).sm_capacitance_uf) n }
+// The submodule capacitances of stations, added up in their order.
+fn capacitance_of(stations: &[ConverterStation]) -> f64
+    ensures { result ≡ sum_of (λ k. (get_or stations.now k blank_station).sm_capacitance_uf) (length stations.now) }
 {
     let mut sum = 0.0;
-    for i in 0..n {
-        sum = sum + stations[i].sm_capacitance_uf;
+    for s in stations {
+        sum += s.sm_capacitance_uf;
     }
     sum
 }

@@ -1,12 +1,11 @@
 // The capacitance at a station: the converter's own, and half of each cable's.
-ghost use Rattle.std.specs.Prelude.{◌≡◌, ◌≤◌, take};
+ghost use Rattle.std.specs.Prelude.{◌≡◌};
 ghost use Rattle.grid.specs.Simulator.{cables_of};
 ghost use Rattle.network.specs.Capacitance.{own_capacitance, mmc_capacitance, rated_capacitance, half_of, with_cable, joined_capacitance, capacitance_with, capacitance_at};
 
 use float64::max;
 use grid::{
-    ConverterStation, ConverterTopology, DcCable, DcSwitchingSimulator, MOST_CABLES,
-    counted_submodules, present,
+    ConverterStation, ConverterTopology, DcCable, DcSwitchingSimulator, counted_submodules,
 };
 use std::num::nearest_u64_to_f64;
 
@@ -14,8 +13,7 @@ use std::num::nearest_u64_to_f64;
 pub fn station_capacitance_uf(g: DcSwitchingSimulator, station: ConverterStation) -> f64
     ensures { result ≡ capacitance_at (cables_of g) station }
 {
-    let cables = g.cables;
-    let joined = joined_capacitance(station.id, cables, present(g.n_cables, MOST_CABLES));
+    let joined = joined_capacitance(station.id, g.present_cables());
     capacitance_with(station, joined)
 }
 
@@ -27,14 +25,13 @@ pub fn capacitance_with(station: ConverterStation, joined: f64) -> f64
 }
 
 // What the cables add to the capacitance at a station of this id, in µF.
-pub fn joined_capacitance(id: u64, cables: [DcCable; MOST_CABLES], n_cables: usize) -> f64
-    requires { n_cables ≤ 64 }
-    ensures { result ≡ joined_capacitance id (take n_cables cables) }
+#[tactic(auto, unfolding(crate::specs::Capacitance::joined_capacitance))]
+pub fn joined_capacitance(id: u64, cables: &[DcCable]) -> f64
+    ensures { result ≡ joined_capacitance id cables.now }
 {
     let mut joined = 0.0;
-    for i in 0..n_cables {
-        let c = cables[i];
-        joined = with_cable(id, joined, c);
+    for c in cables {
+        joined = with_cable(id, joined, *c);
     }
     joined
 }
@@ -60,6 +57,7 @@ fn half_of(c: DcCable) -> f64
 }
 
 // The converter's own capacitance in µF.
+#[tactic(auto, unfolding(crate::specs::Capacitance::own_capacitance))]
 fn own_capacitance(station: ConverterStation) -> f64
     ensures { result ≡ own_capacitance station }
 {

@@ -1,18 +1,14 @@
 // What every stage of a step needs of a grid and of a fault, computed once.
-ghost use Rattle.std.specs.Prelude.{◌≡◌, ◌≤◌, take};
-ghost use Rattle.lists.specs.Tables.{blank};
-ghost use Rattle.float64.specs.Constants.{nought};
-ghost use Rattle.grid.specs.Cables.{resistance};
-ghost use Rattle.network.specs.Network.{inductance, farads, cable_table, end_table, station_table, network_of, drain_of, no_drain};
+ghost use Rattle.std.specs.Prelude.{◌≡◌};
+ghost use Rattle.network.specs.Network.{inductance, network_of, drain_of, no_drain};
 
 use crate::capacitance::{capacitance_with, joined_capacitance};
 use float64::max;
 use grid::{
-    ConverterStation, DcCable, DcFaultEvent, DcSwitchingSimulator, MOST_CABLES, MOST_STATIONS,
-    cable_resistance, present,
+    DcCable, DcFaultEvent, DcSwitchingSimulator, MOST_CABLES, MOST_STATIONS, cable_resistance,
 };
 
-// A grid as the stages see it, in arrays that can be lent.
+// A grid as the stages see it, in arrays that can be lent. Three or more of them share a count, which may be any number: as slices each would need to be as long as the others.
 #[derive(Clone, Copy)]
 pub struct Network {
     pub n_stations: usize,
@@ -41,62 +37,31 @@ const NOWHERE: usize = MOST_STATIONS;
 pub fn network_of(g: DcSwitchingSimulator) -> Network
     ensures { result ≡ network_of g }
 {
-    let n_stations = present(g.n_stations, MOST_STATIONS);
-    let n_cables = present(g.n_cables, MOST_CABLES);
-    let stations = g.stations;
-    let cables = g.cables;
+    let stations = g.present_stations();
+    let cables = g.present_cables();
     let mut from = [0; MOST_CABLES];
     let mut to = [0; MOST_CABLES];
-    read_ends(&mut from, &mut to, cables, n_cables);
-    let mut r = [0.0; MOST_CABLES];
-    let mut l = [0.0; MOST_CABLES];
-    read_impedances(&mut r, &mut l, cables, n_cables);
-    let mut c = [0.0; MOST_STATIONS];
-    read_capacitances(&mut c, stations, n_stations, cables, n_cables);
+    let mut resistance_ohm = [0.0; MOST_CABLES];
+    let mut inductance_h = [0.0; MOST_CABLES];
+    for (k, c) in cables.iter().enumerate() {
+        from[k] = c.from_station as usize;
+        to[k] = c.to_station as usize;
+        resistance_ohm[k] = cable_resistance(*c);
+        inductance_h[k] = cable_inductance(*c);
+    }
+    let mut capacitance_f = [0.0; MOST_STATIONS];
+    for (i, s) in stations.iter().enumerate() {
+        let joined = joined_capacitance(s.id, cables);
+        capacitance_f[i] = max(capacitance_with(*s, joined) * 0.000001, 0.000000000001);
+    }
     Network {
-        n_stations,
-        n_cables,
+        n_stations: stations.len(),
+        n_cables: cables.len(),
         from,
         to,
-        resistance_ohm: r,
-        inductance_h: l,
-        capacitance_f: c,
-    }
-}
-
-// The numbers of both ends of each cable as given, into zeros.
-fn read_ends(
-    from: &mut [usize; MOST_CABLES],
-    to: &mut [usize; MOST_CABLES],
-    cables: [DcCable; MOST_CABLES],
-    n_cables: usize,
-)
-    requires { (n_cables ≤ 64) × (from.old ≡ blank 64 0) × (to.old ≡ blank 64 0) }
-    ensures from { from.new ≡ end_table cables n_cables (λ c. c.from_station) }
-    ensures to { to.new ≡ end_table cables n_cables (λ c. c.to_station) }
-{
-    for i in 0..n_cables {
-        let c = cables[i];
-        from[i] = c.from_station as usize;
-        to[i] = c.to_station as usize;
-    }
-}
-
-// The total resistance and inductance of each cable, into zeros.
-fn read_impedances(
-    r: &mut [f64; MOST_CABLES],
-    l: &mut [f64; MOST_CABLES],
-    cables: [DcCable; MOST_CABLES],
-    n_cables: usize,
-)
-    requires { (n_cables ≤ 64) × (r.old ≡ blank 64 nought) × (l.old ≡ blank 64 nought) }
-    ensures resistances { r.new ≡ cable_table cables n_cables resistance }
-    ensures inductances { l.new ≡ cable_table cables n_cables inductance }
-{
-    for i in 0..n_cables {
-        let c = cables[i];
-        r[i] = cable_resistance(c);
-        l[i] = cable_inductance(c);
+        resistance_ohm,
+        inductance_h,
+        capacitance_f,
     }
 }
 
@@ -107,40 +72,20 @@ fn cable_inductance(c: DcCable) -> f64
     max(c.l_per_km * c.length_km * 0.001, 0.000000001)
 }
 
-// The capacitance at each station in farads, into zeros.
-fn read_capacitances(
-    c: &mut [f64; MOST_STATIONS],
-    stations: [ConverterStation; MOST_STATIONS],
-    n_stations: usize,
-    cables: [DcCable; MOST_CABLES],
-    n_cables: usize,
-)
-    requires { (n_stations ≤ 32) × (n_cables ≤ 64) × (c.old ≡ blank 32 nought) }
-    ensures { c.new ≡ station_table stations n_stations (farads (take n_cables cables)) }
-{
-    for i in 0..n_stations {
-        let s = stations[i];
-        let joined = joined_capacitance(s.id, cables, n_cables);
-        c[i] = max(capacitance_with(s, joined) * 0.000001, 0.000000000001);
-    }
-}
-
 // What a fault drains: nothing where the grid does not have its cable.
 pub fn drain_of(g: DcSwitchingSimulator, fault: DcFaultEvent) -> Drain
     ensures { result ≡ drain_of g fault }
 {
     let k = fault.location_cable_id as usize;
-    if k < present(g.n_cables, MOST_CABLES) {
-        let cables = g.cables;
-        let c = cables[k];
-        return Drain {
+    match g.present_cables().get(k) {
+        Some(c) => Drain {
             from: c.from_station as usize,
             to: c.to_station as usize,
             resistance: max(fault.fault_resistance, 0.000001) * 1000.0,
             fraction: fault.location_fraction,
-        };
+        },
+        None => no_drain(),
     }
-    no_drain()
 }
 
 // No drain, as in a step without a fault: its ends are no stations.

@@ -3,7 +3,7 @@ ghost use Rattle.std.specs.Prelude.{◌≡◌, min, false};
 ghost use Rattle.lists.specs.Tables.{padded};
 ghost use Rattle.run_start.specs.Start.{time_at, rated_of};
 
-use grid::{DcSwitchingSimulator, MOST_BREAKERS, MOST_STATIONS, present};
+use grid::{BreakerCount, DcSwitchingSimulator, MOST_BREAKERS};
 use std::num::nearest_u64_to_f64;
 
 // The time of a step in milliseconds. Steps are numbered from 0.
@@ -17,11 +17,8 @@ pub fn step_time_ms(dt_ms: f64, step: u64) -> f64
 pub fn rated_voltages(g: DcSwitchingSimulator) -> [f64; 96]
     ensures { result ≡ rated_of g }
 {
-    let stations = g.stations;
-    let n = present(g.n_stations, MOST_STATIONS);
     let mut y = [0.0; 96];
-    for i in 0..n {
-        let s = stations[i];
+    for (i, s) in g.present_stations().iter().enumerate() {
         y[i] = s.v_dc_rated_kv;
     }
     y
@@ -31,9 +28,9 @@ pub fn rated_voltages(g: DcSwitchingSimulator) -> [f64; 96]
 pub fn breakers_all(n_breakers: usize, closed: bool) -> [bool; MOST_BREAKERS]
     ensures { result ≡ padded 32 (min n_breakers 32) (λ _. closed) false }
 {
-    let n = present(n_breakers, MOST_BREAKERS);
+    let n = BreakerCount::of(n_breakers);
     let mut breakers = [false; MOST_BREAKERS];
-    for i in 0..n {
+    for i in 0..n.value {
         breakers[i] = closed;
     }
     breakers

@@ -1,5 +1,5 @@
 // How fast the voltages of n stations and the currents of m cables change. The state y has the voltages, then the currents.
-ghost use Rattle.std.specs.Prelude.{◌≡◌, ◌+◌, ◌-◌, ◌≤◌, cond, ltb};
+ghost use Rattle.std.specs.Prelude.{◌≡◌, ◌+◌, ◌-◌, cond, length, ltb};
 ghost use Rattle.std.specs.Float.{nan};
 ghost use Rattle.lists.specs.Tables.{blank, over, padded};
 ghost use Rattle.float64.specs.Constants.{nought};
@@ -8,7 +8,7 @@ ghost use Rattle.network.specs.Network.{end};
 ghost use Rattle.state_derivatives.specs.Derivatives.{passed, net, drain_current, drained, cable_rate, slopes, stations_in, cables_in};
 
 use crate::state::{StageSlopes, StageState};
-use grid::{MOST_CABLES, MOST_STATIONS, cut_end, present};
+use grid::{CableCount, MOST_STATIONS, StationCount, cut_end};
 use network::{Drain, Network};
 
 // A cable in a stage.
@@ -29,53 +29,48 @@ struct StationStage {
 }
 
 // DcSwitchingSimulator::state_derivatives. A count past the tables takes all of them.
+#[tactic(auto, unfolding(lists::specs::Tables::blank))]
 pub fn state_derivatives(network: &Network, drain: Drain, state: StageState) -> StageSlopes
     ensures { result.dy ≡ slopes network.now drain state.y }
 {
-    let n = present(network.n_stations, MOST_STATIONS);
-    let m = present(network.n_cables, MOST_CABLES);
+    let n = StationCount::of(network.n_stations);
     let mut nets = [0.0; MOST_STATIONS];
-    add_currents(&mut nets, network, &state.y, n, m);
+    add_currents(&mut nets, network, &state.y);
     drain_ends(&mut nets, drain, &state.y, n);
     let mut dy = [0.0; 96];
-    station_rates(&mut dy, &nets, &network.capacitance_f, n);
-    cable_rates(&mut dy, network, &state.y, n, m);
+    station_rates(&mut dy, network, &nets);
+    cable_rates(&mut dy, network, &state.y);
     StageSlopes { dy }
 }
 
 // The current into each station. A count past the tables takes all of them.
+#[tactic(auto, unfolding(lists::specs::Tables::blank))]
 pub fn net_currents(network: &Network, state: StageState) -> [f64; MOST_STATIONS]
     ensures { result ≡ padded 32 (stations_in network.now) (net (end network.now.from) (end network.now.to) (stations_in network.now) state.y (cables_in network.now)) nought }
 {
-    let n = present(network.n_stations, MOST_STATIONS);
-    let m = present(network.n_cables, MOST_CABLES);
     let mut nets = [0.0; MOST_STATIONS];
-    add_currents(&mut nets, network, &state.y, n, m);
+    add_currents(&mut nets, network, &state.y);
     nets
 }
 
-// The current into each station, into zeros. One pass over the cables: to each station's sum they are added in their order, as if the
-// cables were gone through for each station.
-fn add_currents(
-    nets: &mut [f64; MOST_STATIONS],
-    network: &Network,
-    y: &[f64; 96],
-    n: usize,
-    m: usize,
-)
-    requires { (n ≤ 32) × (m ≤ 64) × (nets.old ≡ blank 32 nought) }
-    ensures { nets.new ≡ padded 32 n (net (end network.now.from) (end network.now.to) n y.now m) nought }
+// The current into each station, into zeros that are lent: where such arrays were handed back, and copied, a step of two stations took half as long again. One pass over the cables: to each station's
+// sum they are added in their order, as if the cables were gone through for each station.
+fn add_currents(nets: &mut [f64; MOST_STATIONS], network: &Network, y: &[f64; 96])
+    requires { nets.old ≡ blank 32 nought }
+    ensures { nets.new ≡ padded 32 (stations_in network.now) (net (end network.now.from) (end network.now.to) (stations_in network.now) y.now (cables_in network.now)) nought }
 {
+    let n = StationCount::of(network.n_stations).value;
+    let m = CableCount::of(network.n_cables).value;
     for k in 0..m {
-        pass_current(nets, network.from[k], network.to[k], y[n + k], n);
+        pass_current(&mut nets[..n], network.from[k], network.to[k], y[n + k]);
     }
 }
 
-// Adds a cable's current to the station at its second end, and takes it off the one at its first unless the two are one. An end past the count has no station.
-fn pass_current(nets: &mut [f64; MOST_STATIONS], from: usize, to: usize, current: f64, n: usize)
-    requires { n ≤ 32 }
-    ensures { nets.new ≡ over n (λ i. passed from to current i (of nets.old i)) nan nets.old }
+// Adds a cable's current to the station at its second end, and takes it off the one at its first unless the two are one. An end past the stations has none.
+fn pass_current(nets: &mut [f64], from: usize, to: usize, current: f64)
+    ensures { nets.new ≡ over (length nets.old) (λ i. passed from to current i (of nets.old i)) nan nets.old }
 {
+    let n = nets.len();
     if to < n {
         nets[to] = nets[to] + current;
     }
@@ -86,17 +81,17 @@ fn pass_current(nets: &mut [f64; MOST_STATIONS], from: usize, to: usize, current
     }
 }
 
-// Takes the drain off the stations at both ends of the faulted cable, once if the two are one.
-fn drain_ends(nets: &mut [f64; MOST_STATIONS], drain: Drain, y: &[f64; 96], n: usize)
-    requires { n ≤ 32 }
-    ensures { nets.new ≡ over n (λ i. drained drain y.now i (of nets.old i)) nan nets.old }
+// Takes the drain off the stations at both ends of the faulted cable, once if the two are one. A count and no slices, since currents and
+// voltages lie side by side: each would need a clause that it is as long as the other.
+fn drain_ends(nets: &mut [f64; MOST_STATIONS], drain: Drain, y: &[f64; 96], n: StationCount)
+    ensures { nets.new ≡ over n.value (λ i. drained drain y.now i (of nets.old i)) nan nets.old }
 {
     let from = drain.from;
     let to = drain.to;
-    if from < n {
+    if from < n.value {
         nets[from] = nets[from] - drain_current(drain, y[from]);
     }
-    if to < n {
+    if to < n.value {
         if to != from {
             nets[to] = nets[to] - drain_current(drain, y[to]);
         }
@@ -110,20 +105,15 @@ fn drain_current(drain: Drain, v_kv: f64) -> f64
     v_kv * 1000.0 / drain.resistance * drain.fraction
 }
 
-// The rates of the voltages in kV/s, into zeros.
-fn station_rates(
-    dy: &mut [f64; 96],
-    nets: &[f64; MOST_STATIONS],
-    c: &[f64; MOST_STATIONS],
-    n: usize,
-)
-    requires { (n ≤ 32) × (dy.old ≡ blank 96 nought) }
-    ensures { dy.new ≡ padded 96 n (λ i. of nets.now i ⊘ of c.now i) nought }
+// The rates of the voltages in kV/s.
+fn station_rates(dy: &mut [f64; 96], network: &Network, nets: &[f64; MOST_STATIONS])
+    ensures { dy.new ≡ over (stations_in network.now) (λ i. of nets.now i ⊘ of network.now.capacitance_f i) nan dy.old }
 {
+    let n = StationCount::of(network.n_stations).value;
     for i in 0..n {
         let s = StationStage {
             net_current_ka: nets[i],
-            capacitance_f: c[i],
+            capacitance_f: network.capacitance_f[i],
         };
         dy[i] = station_rate(s);
     }
@@ -136,10 +126,11 @@ fn station_rate(s: StationStage) -> f64
 }
 
 // The rates of the cable currents in kA/s, behind those of the voltages. The ends of a cable are cut to the last station.
-fn cable_rates(dy: &mut [f64; 96], network: &Network, y: &[f64; 96], n: usize, m: usize)
-    requires { (n ≤ 32) × (m ≤ 64) }
-    ensures { dy.new ≡ over (n + m) (λ i. cond (ltb i n) (of dy.old i) (cable_rate (end network.now.from) (end network.now.to) (of network.now.resistance_ohm) (of network.now.inductance_h) n y.now (i - n))) nan dy.old }
+fn cable_rates(dy: &mut [f64; 96], network: &Network, y: &[f64; 96])
+    ensures { dy.new ≡ over (stations_in network.now + cables_in network.now) (λ i. cond (ltb i (stations_in network.now)) (of dy.old i) (cable_rate (end network.now.from) (end network.now.to) (of network.now.resistance_ohm) (of network.now.inductance_h) (stations_in network.now) y.now (i - stations_in network.now))) nan dy.old }
 {
+    let n = StationCount::of(network.n_stations).value;
+    let m = CableCount::of(network.n_cables).value;
     for k in 0..m {
         let cable = CableStage {
             v_from_kv: y[cut_end(network.from[k] as u64, n)],

@@ -1,5 +1,5 @@
 // One step of classical Runge-Kutta.
-ghost use Rattle.std.specs.Prelude.{◌≡◌, ◌+◌, ◌≤◌};
+ghost use Rattle.std.specs.Prelude.{◌≡◌, ◌+◌};
 ghost use Rattle.std.specs.Float.{nan};
 ghost use Rattle.lists.specs.Tables.{over};
 ghost use Rattle.float64.specs.Constants.{nought};
@@ -9,11 +9,14 @@ ghost use Rattle.state_derivatives.specs.Derivatives.{slopes, stations_in, cable
 ghost use Rattle.transient.specs.Rk4.{ahead, blended, weighted, new_state, rk4_step};
 
 use float64::max;
-use grid::{MOST_CABLES, MOST_STATIONS, present};
+use grid::{CableCount, Count, StationCount};
 use network::{Drain, Network};
 use state_derivatives::{
     DcTransientState, StageSlopes, StageState, net_currents, state_derivatives,
 };
+
+// How many of the numbers of a state are taken.
+type NumberCount = Count<96>;
 
 // The slopes of one number of the state.
 #[derive(Clone, Copy)]
@@ -54,10 +57,17 @@ pub fn moved_numbers(network: &Network, drain: Drain, start: StageState, dt_s: f
     let k2 = slopes_ahead(network, drain, half_s, start, k1);
     let k3 = slopes_ahead(network, drain, half_s, start, k2);
     let k4 = slopes_ahead(network, drain, dt_s, start, k3);
-    let n = present(network.n_stations, MOST_STATIONS);
-    let m = present(network.n_cables, MOST_CABLES);
-    let moved = blend(start, dt_s / 6.0, k1, k2, k3, k4, n + m);
-    raise_voltages(moved, n)
+    let moved = blend(start, dt_s / 6.0, k1, k2, k3, k4, numbers_in(network));
+    raise_voltages(moved, StationCount::of(network.n_stations))
+}
+
+// How many numbers the state of a network has.
+fn numbers_in(network: &Network) -> NumberCount
+    ensures { result.value ≡ stations_in network.now + cables_in network.now }
+{
+    let n = StationCount::of(network.n_stations);
+    let m = CableCount::of(network.n_cables);
+    NumberCount::of(n.value + m.value)
 }
 
 // The slopes at the state that the slopes k lead to in `ahead_s` seconds.
@@ -70,27 +80,25 @@ fn slopes_ahead(
 ) -> StageSlopes
     ensures { result.dy ≡ slopes network.now drain (ahead (stations_in network.now + cables_in network.now) start.y ahead_s k.dy) }
 {
-    let n = present(network.n_stations, MOST_STATIONS);
-    let m = present(network.n_cables, MOST_CABLES);
-    let there = move_along(start, ahead_s, k, n + m);
+    let there = move_along(start, ahead_s, k, numbers_in(network));
     state_derivatives(network, drain, there)
 }
 
 // Where the slopes k lead in h seconds.
-fn move_along(start: StageState, h: f64, k: StageSlopes, size: usize) -> StageState
-    requires { size ≤ 96 }
-    ensures { result.y ≡ ahead size start.y h k.dy }
+fn move_along(start: StageState, h: f64, k: StageSlopes, size: NumberCount) -> StageState
+    ensures { result.y ≡ ahead size.value start.y h k.dy }
 {
     let y = start.y;
     let dy = k.dy;
     let mut out = [0.0; 96];
-    for i in 0..size {
+    for i in 0..size.value {
         out[i] = y[i] + h * dy[i];
     }
     StageState { y: out }
 }
 
-// Where the slopes of all four stages together lead. `sixth` is a sixth of the step in seconds.
+// Where the slopes of all four stages together lead. `sixth` is a sixth of the step in seconds. Seven parameters: where the four slopes are
+// lent in one struct, or this loop stands in the step itself, more arrays are copied, and a step of two stations takes 8 to 23 percent longer.
 fn blend(
     start: StageState,
     sixth: f64,
@@ -98,10 +106,9 @@ fn blend(
     k2: StageSlopes,
     k3: StageSlopes,
     k4: StageSlopes,
-    size: usize,
+    size: NumberCount,
 ) -> StageState
-    requires { size ≤ 96 }
-    ensures { result.y ≡ blended size start.y sixth k1.dy k2.dy k3.dy k4.dy }
+    ensures { result.y ≡ blended size.value start.y sixth k1.dy k2.dy k3.dy k4.dy }
 {
     let y = start.y;
     let dy1 = k1.dy;
@@ -109,7 +116,7 @@ fn blend(
     let dy3 = k3.dy;
     let dy4 = k4.dy;
     let mut out = [0.0; 96];
-    for i in 0..size {
+    for i in 0..size.value {
         let s = Slopes {
             k1: dy1[i],
             k2: dy2[i],
@@ -129,12 +136,11 @@ fn weigh(s: Slopes) -> f64
 }
 
 // The state with each voltage at least 0, and its cable currents as they are.
-fn raise_voltages(moved: StageState, n: usize) -> StageState
-    requires { n ≤ 32 }
-    ensures { result.y ≡ over n (λ i. max_of (of moved.y i) nought) nan moved.y }
+fn raise_voltages(moved: StageState, n: StationCount) -> StageState
+    ensures { result.y ≡ over n.value (λ i. max_of (of moved.y i) nought) nan moved.y }
 {
     let mut y = moved.y;
-    for i in 0..n {
+    for i in 0..n.value {
         y[i] = max(y[i], 0.0);
     }
     StageState { y }

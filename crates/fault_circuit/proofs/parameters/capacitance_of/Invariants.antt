@@ -5,5 +5,5 @@ use mathlib.Core.Path.{◌≡◌}
 use lib.ListN.{get_or}
 use Rattle.fault_circuit.proofs.parameters.capacitance_of.Given as goal
 
-abbrev pub invariant-loop-i : goal.invariant-loop-i
-invariant-loop-i l = l.sum ≡ sum_of (λ k. (get_or l.stations k blank_station).sm_capacitance_uf) l.i
+abbrev pub invariant-loop-s : goal.invariant-loop-s
+invariant-loop-s l = l.sum ≡ sum_of (λ k. (get_or l.stations k blank_station).sm_capacitance_uf) l.s-index

@@ -1,9 +1,7 @@
 -- `joined_capacitance` meets its contract. Assumes nothing.
 use Rattle.std.proofs.Common.{◌≡◌, take}
-use Rattle.network.specs.Capacitance.{with_cable}
-use Rattle.float64.specs.Constants.{nought}
-use mathlib.Core.List.{foldl}
+use Rattle.network.specs.Capacitance.{joined_capacitance}
 use Rattle.network.proofs.capacitance.joined_capacitance.Given as goal
 
-abbrev pub invariant-loop-i : goal.invariant-loop-i
-invariant-loop-i l = l.joined ≡ foldl (with_cable l.id) nought (take l.i l.cables)
+abbrev pub invariant-loop-c : goal.invariant-loop-c
+invariant-loop-c l = l.joined ≡ joined_capacitance l.id (take l.c-index l.cables)

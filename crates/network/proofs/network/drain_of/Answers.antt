@@ -2,24 +2,29 @@
 use Rattle.network.specs.Network.{cable_count, drain_at, drain_of}
 use Rattle.grid.specs.declared.parts.DcCable.{DcCable}
 use Rattle.grid.specs.Simulator.{blank_cable}
-use Rattle.lists.proofs.Fills.{get_d_within}
-use Rattle.lists.proofs.Scanning.{unmapped}
-use Rattle.std.proofs.Common.{◌≡◌, ◌<◌, ◌≤◌, length, get_or, ap, ◌∙◌, arith, rules, le-ltb, lt-ltb}
+use Rattle.lists.proofs.Scanning.{length_cut, unmapped}
+use Rattle.std.proofs.Common.{◌≡◌, ◌<◌, ◌≤◌, length, get_or, ap, refl, ◌∙◌, arith, rules, le-ltb, lt-ltb}
+use Rattle.std.proofs.lemmas.List.{get_or-take}
 use Rattle.network.proofs.network.drain_of.Goals as goal
 
-pub returns-then-k-present : goal.returns-then-k-present
+pub returns-in-Some : goal.returns-in-Some
 unfolding drain_of
-returns-then-k-present c =
-    let long : length c.args.g.cables ≡ 64 = search (rules, unmapped) in
+returns-in-Some c =
     let g = c.args.g in
-    let f = c.args.fault in
-    let k = f.location_cable_id in
-    let l : k < cable_count g.n_cables = rw c.present.ensures at c.if-k-present.true in
-    let same : get_or g.cables k _ ≡ get_or g.cables k blank_cable = get_d_within g.cables k _ blank_cable (omega (arith, long)) in
-    rw (lt-ltb k _ l, c.max.ensures) (ap (λ (x : DcCable). drain_at x f) same)
+    let k = c.args.fault.location_cable_id in
+    let long : length g.cables ≡ 64 = search (rules, unmapped) in
+    let many = length_cut g.cables g.n_cables 64 _ long refl in
+    let e = c.present_cables.ensures in
+    let found = c.in-Some.ensures.lookup.3 in
+    let l : k < cable_count g.n_cables = rw (e, ← many) at found.0 in
+    let same : _ ≡ get_or g.cables k blank_cable = found.1 blank_cable ∙ rw e (get_or-take g.n_cables g.cables k blank_cable (omega arith)) in
+    rw (lt-ltb k _ l, c.max.ensures) (ap (λ (x : DcCable). drain_at x c.args.fault) same)
 
-pub returns : goal.returns
+pub returns-in-None : goal.returns-in-None
 unfolding drain_of
-returns c =
-    let l : cable_count c.args.g.n_cables ≤ c.args.fault.location_cable_id = rw c.present.ensures at c.if-k-present.false in
+returns-in-None c =
+    let g = c.args.g in
+    let long : length g.cables ≡ 64 = search (rules, unmapped) in
+    let many = length_cut g.cables g.n_cables 64 _ long refl in
+    let l : cable_count g.n_cables ≤ c.args.fault.location_cable_id = rw (c.present_cables.ensures, ← many) at c.in-None.ensures.lookup.3 in
     c.no_drain.ensures ∙ rw (le-ltb c.args.fault.location_cable_id _ l)

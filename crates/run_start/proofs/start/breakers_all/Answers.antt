@@ -16,5 +16,5 @@ pub returns : goal.returns
 returns c =
     let closed = c.args.closed in
     at_end_lem (λ k. upto k (λ _. closed) (blank 32 false)) c.loop-i.auto.i-end c.loop-i-test.false c.loop-i.invariant
-    ∙ upto_padded c.present-n.result 32 _ false (omega (arith, c.present-n.ensures))
-    ∙ ap (λ (n : ℕ). padded 32 n (λ _. closed) false) c.present-n.ensures
+    ∙ upto_padded c.of-n.result.value 32 _ false (omega (arith, c.of-n.ensures))
+    ∙ ap (λ (n : ℕ). padded 32 n (λ _. closed) false) c.of-n.ensures

@@ -7,4 +7,4 @@ use Rattle.std.proofs.Common.{◌≡◌}
 use Rattle.run_start.proofs.start.rated_voltages.Given as goal
 
 abbrev pub invariant-loop-i : goal.invariant-loop-i
-invariant-loop-i l = l.y ≡ upto l.i (rated l.stations) (blank 96 nought)
+invariant-loop-i l = l.y ≡ upto l.i (rated l.s-items) (blank 96 nought)

@@ -8,6 +8,7 @@ use borrow.Author.Tests.{lt-ltb}
 use Rattle.state_derivatives.specs.Derivatives.{cable_rate}
 use Rattle.float64.specs.Arithmetic.{of}
 use Rattle.lists.proofs.Fills.{upto, upto_kept, upto_more, upto_over}
+use Rattle.lists.specs.Tables.{over}
 use Rattle.lists.proofs.Counting.{at_end_lem}
 use native.Mathlib.Omega.{arith}
 use mathlib.Core.Path.{◌≡◌, ◌∙◌}
@@ -16,12 +17,12 @@ use Rattle.state_derivatives.proofs.derivatives.cable_rates.Goals as goal
 
 pub loop-k-init : goal.loop-k-init
 loop-k-init c =
-    upto_kept (c.args.n + 0) (rates c.args.dy.now c.args.network.now c.args.n c.args.y.now) nan c.args.dy.now (λ i l. let h : i < c.args.n = omega arith in rw (lt-ltb i c.args.n h))
+    upto_kept (c.of-n.result.value + 0) (rates c.args.dy.now c.args.network.now c.of-n.result.value c.args.y.now) nan c.args.dy.now (λ i l. let h : i < c.of-n.result.value = omega arith in rw (lt-ltb i c.of-n.result.value h))
 
 pub loop-k-preserved : goal.loop-k-preserved
 loop-k-preserved c =
     let w = c.args.network.now in
-    let n = c.args.n in
+    let n = c.of-n.result.value in
     let y = c.args.y.now in
     let k = c.loop-k.k in
     let f = rates c.args.dy.now w n y in
@@ -30,6 +31,11 @@ loop-k-preserved c =
 
 pub returns : goal.returns
 returns c =
-    let f = rates c.args.dy.now c.args.network.now c.args.n c.args.y.now in
-    at_end_lem (λ k. upto (c.args.n + k) f c.args.dy.now) c.loop-k.auto.k-end c.loop-k-test.false c.loop-k.invariant
-    ∙ upto_over (c.args.n + c.args.m) f nan c.args.dy.now
+    let dy = c.args.dy.now in
+    let w = c.args.network.now in
+    let y = c.args.y.now in
+    let n = c.of-n.result.value in
+    let f = rates dy w n y in
+    at_end_lem (λ k. upto (n + k) f dy) c.loop-k.auto.k-end c.loop-k-test.false c.loop-k.invariant
+    ∙ upto_over (n + c.of-m.result.value) f nan dy
+    ∙ λ i. over (c.of-n.ensures i + c.of-m.ensures i) (rates dy w (c.of-n.ensures i) y) nan dy

@@ -2,6 +2,7 @@
 use Rattle.float64.specs.Arithmetic.{◌⊕◌, ◌⊖◌}
 use Rattle.lists.proofs.Places.{once, once_stored, once_past, twice_stored, twice_past, twice_joined}
 use lib.Ieee.{Float, nan}
+use lib.ListN.{length}
 use Prim.Native.Nat.{ℕ}
 use mathlib.Core.Path.{◌≡◌, sym, ◌∙◌}
 use Rattle.state_derivatives.proofs.derivatives.pass_current.Goals as goal
@@ -15,27 +16,27 @@ go x i s = s ⊖ x
 
 pub returns-then-from-to : goal.returns-then-from-to
 returns-then-from-to c =
-    let first : c.if-to-n.nets ≡ once c.args.n nan (come c.args.current) c.args.to c.args.nets.now =
+    let first : c.if-to-n.nets ≡ once (length c.args.nets.now) nan (come c.args.current) c.args.to c.args.nets.now =
     elim c.if-to-n.branch [
-      | then-to-n w ↦ w.nets-is ∙ once_stored c.args.n nan (come c.args.current) c.args.to c.args.nets.now w.if-to-n.true
-      | else-to-n w ↦ w.nets-is ∙ once_past c.args.n nan (come c.args.current) c.args.to c.args.nets.now w.if-to-n.false
+      | then-to-n w ↦ w.nets-is ∙ once_stored (length c.args.nets.now) nan (come c.args.current) c.args.to c.args.nets.now w.if-to-n.true
+      | else-to-n w ↦ w.nets-is ∙ once_past (length c.args.nets.now) nan (come c.args.current) c.args.to c.args.nets.now w.if-to-n.false
     ] in
-    twice_stored c.args.n nan (come c.args.current) (go c.args.current) c.args.to c.args.from c.args.nets.now first c.if-from-n.true (λ e. c.if-from-to.true (sym e))
+    twice_stored (length c.args.nets.now) nan (come c.args.current) (go c.args.current) c.args.to c.args.from c.args.nets.now first c.if-from-n.true (λ e. c.if-from-to.true (sym e))
 
 pub returns-else-from-to : goal.returns-else-from-to
 returns-else-from-to c =
-    let first : c.if-to-n.nets ≡ once c.args.n nan (come c.args.current) c.args.to c.args.nets.now =
+    let first : c.if-to-n.nets ≡ once (length c.args.nets.now) nan (come c.args.current) c.args.to c.args.nets.now =
     elim c.if-to-n.branch [
-      | then-to-n w ↦ w.nets-is ∙ once_stored c.args.n nan (come c.args.current) c.args.to c.args.nets.now w.if-to-n.true
-      | else-to-n w ↦ w.nets-is ∙ once_past c.args.n nan (come c.args.current) c.args.to c.args.nets.now w.if-to-n.false
+      | then-to-n w ↦ w.nets-is ∙ once_stored (length c.args.nets.now) nan (come c.args.current) c.args.to c.args.nets.now w.if-to-n.true
+      | else-to-n w ↦ w.nets-is ∙ once_past (length c.args.nets.now) nan (come c.args.current) c.args.to c.args.nets.now w.if-to-n.false
     ] in
-    twice_joined c.args.n nan (come c.args.current) (go c.args.current) c.args.to c.args.from c.args.nets.now first (sym c.if-from-to.false)
+    twice_joined (length c.args.nets.now) nan (come c.args.current) (go c.args.current) c.args.to c.args.from c.args.nets.now first (sym c.if-from-to.false)
 
 pub returns-else-from-n : goal.returns-else-from-n
 returns-else-from-n c =
-    let first : c.if-to-n.nets ≡ once c.args.n nan (come c.args.current) c.args.to c.args.nets.now =
+    let first : c.if-to-n.nets ≡ once (length c.args.nets.now) nan (come c.args.current) c.args.to c.args.nets.now =
     elim c.if-to-n.branch [
-      | then-to-n w ↦ w.nets-is ∙ once_stored c.args.n nan (come c.args.current) c.args.to c.args.nets.now w.if-to-n.true
-      | else-to-n w ↦ w.nets-is ∙ once_past c.args.n nan (come c.args.current) c.args.to c.args.nets.now w.if-to-n.false
+      | then-to-n w ↦ w.nets-is ∙ once_stored (length c.args.nets.now) nan (come c.args.current) c.args.to c.args.nets.now w.if-to-n.true
+      | else-to-n w ↦ w.nets-is ∙ once_past (length c.args.nets.now) nan (come c.args.current) c.args.to c.args.nets.now w.if-to-n.false
     ] in
-    twice_past c.args.n nan (come c.args.current) (go c.args.current) c.args.to c.args.from c.args.nets.now first c.if-from-n.false
+    twice_past (length c.args.nets.now) nan (come c.args.current) (go c.args.current) c.args.to c.args.from c.args.nets.now first c.if-from-n.false

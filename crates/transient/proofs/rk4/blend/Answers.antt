@@ -23,4 +23,4 @@ unfolding blended
 returns c =
     let f : ℕ → Float = λ i. of c.args.start.y i ⊕ c.args.sixth ⊗ weighted (of c.args.k1.dy i) (of c.args.k2.dy i) (of c.args.k3.dy i) (of c.args.k4.dy i) in
     at_end_lem (λ n. upto n f (blank 96 nought)) c.loop-i.auto.i-end c.loop-i-test.false c.loop-i.invariant
-    ∙ upto_padded c.args.size 96 f nought c.requires
+    ∙ upto_padded c.args.size.value 96 f nought c.args.size.fits

@@ -20,4 +20,4 @@ pub returns : goal.returns
 unfolding ahead
 returns c =
     at_end_lem (λ n. upto n (λ i. of c.args.start.y i ⊕ c.args.h ⊗ of c.args.k.dy i) (blank 96 nought)) c.loop-i.auto.i-end c.loop-i-test.false c.loop-i.invariant
-    ∙ upto_padded c.args.size 96 _ nought c.requires
+    ∙ upto_padded c.args.size.value 96 _ nought c.args.size.fits

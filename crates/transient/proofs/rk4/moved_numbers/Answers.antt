@@ -17,8 +17,6 @@ pub returns : goal.returns
 returns c =
     let w = c.args.network.now in
     let y = c.args.start.y in
-    let n = c.present-n.ensures in
-    let m = c.present-m.ensures in
     let stages =
     rk4_staged
     (stations_in w + cables_in w)
@@ -29,7 +27,7 @@ returns c =
     c.slopes_ahead-k2.ensures
     c.slopes_ahead-k3.ensures
     c.slopes_ahead-k4.ensures
-    (c.blend-moved.ensures ∙ λ i. blended (n i + m i) y (c.args.dt_s ⊘ six) c.state_derivatives-k1.result.dy c.slopes_ahead-k2.result.dy c.slopes_ahead-k3.result.dy c.slopes_ahead-k4.result.dy) in
+    (c.blend-moved.ensures ∙ λ i. blended (c.numbers_in.ensures i) y (c.args.dt_s ⊘ six) c.state_derivatives-k1.result.dy c.slopes_ahead-k2.result.dy c.slopes_ahead-k3.result.dy c.slopes_ahead-k4.result.dy) in
     c.raise_voltages.ensures
-    ∙ (λ i. over (n i) (λ k. max_of (of (stages i) k) nought) nan (stages i))
+    ∙ (λ i. over (c.of.ensures i) (λ k. max_of (of (stages i) k) nought) nan (stages i))
     ∙ rk4-raised (stations_in w) (cables_in w) (slopes w c.args.drain) c.args.dt_s y

@@ -20,4 +20,4 @@ loop-i-preserved c =
 pub returns : goal.returns
 returns c =
     at_end_lem (λ k. upto k (λ i. max_of (of c.args.moved.y i) nought) c.args.moved.y) c.loop-i.auto.i-end c.loop-i-test.false c.loop-i.invariant
-    ∙ upto_over c.args.n _ nan c.args.moved.y
+    ∙ upto_over c.args.n.value _ nan c.args.moved.y
