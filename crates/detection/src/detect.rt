@@ -1,12 +1,12 @@
 // A fault shows in a current that changes fast, or in a voltage far below rated.
-ghost use Rattle.std.specs.Prelude.{◌≡◌, ◌≤◌, ◌+◌, IfOk};
+ghost use Rattle.std.specs.Prelude.{◌≡◌, ◌+◌, IfOk};
 ghost use Rattle.lists.specs.Scans.{some};
 ghost use Rattle.float64.specs.Arithmetic.{of};
 ghost use Rattle.rules.specs.Studies.{number_of, detection_refusal};
 ghost use Rattle.detection.specs.Detection.{time_between, fast, low, shown_by, detected_by, detection};
 
 use float64::{abs, max};
-use grid::{DcSwitchingSimulator, MOST_CABLES, MOST_STATIONS, present};
+use grid::{CableCount, DcSwitchingSimulator, StationCount};
 use rules::{Refusal, check_detection};
 use run_start::rated_voltages;
 use state_derivatives::DcTransientState;
@@ -27,6 +27,7 @@ pub fn detect_fault(
 }
 
 // Whether a fault shows between two states of a grid that is known to be accepted, by its counts and its rated voltages: what a sweep asks after each step.
+// Here and below several arrays share the counts: as slices each would need a clause that it is as long as the others.
 #[tactic(auto, unfolding(crate::specs::Detection::detected_by))]
 pub fn detects(
     rated_kv: &[f64; 96],
@@ -37,37 +38,41 @@ pub fn detects(
 ) -> bool
     ensures { result ≡ detected_by rated_kv.now n_stations n_cables state prev }
 {
-    let y = state.y;
-    let before = prev.y;
-    shows_fault(
-        rated_kv,
-        &y,
-        &before,
-        n_stations,
-        n_cables,
-        state.time_ms,
-        prev.time_ms,
-    )
+    let now = Seen {
+        time_ms: state.time_ms,
+        y: &state.y,
+    };
+    let before = Seen {
+        time_ms: prev.time_ms,
+        y: &prev.y,
+    };
+    shows_fault(rated_kv, n_stations, n_cables, now, before)
+}
+
+// What detection reads of a state.
+#[derive(Clone, Copy)]
+pub struct Seen<'a> {
+    pub time_ms: f64,
+    // voltages, then cable currents
+    pub y: &'a [f64; 96],
 }
 
 // The same from the voltages, cable currents and times of the two states alone. A count past the arrays takes all of them.
 #[tactic(auto, unfolding(crate::specs::Detection::shown_by))]
 pub fn shows_fault(
     rated_kv: &[f64; 96],
-    y: &[f64; 96],
-    before: &[f64; 96],
     n_stations: usize,
     n_cables: usize,
-    time_ms: f64,
-    before_ms: f64,
+    now: Seen,
+    before: Seen,
 ) -> bool
-    ensures { result ≡ shown_by rated_kv.now n_stations n_cables y.now before.now time_ms before_ms }
+    ensures { result ≡ shown_by rated_kv.now n_stations n_cables now.entry.y.now before.entry.y.now now.entry.time_ms before.entry.time_ms }
 {
-    let n = present(n_stations, MOST_STATIONS);
-    let m = present(n_cables, MOST_CABLES);
-    let dt_ms = time_between(time_ms, before_ms);
-    let fast = some_current_fast(y, before, dt_ms, n, m);
-    let low = some_voltage_low(rated_kv, y, n);
+    let n = StationCount::of(n_stations);
+    let m = CableCount::of(n_cables);
+    let dt_ms = time_between(now.time_ms, before.time_ms);
+    let fast = some_current_fast(now.y, before.y, dt_ms, n, m);
+    let low = some_voltage_low(rated_kv, now.y, n);
     fast | low
 }
 
@@ -83,14 +88,13 @@ fn some_current_fast(
     y: &[f64; 96],
     before: &[f64; 96],
     dt_ms: f64,
-    n_stations: usize,
-    n_cables: usize,
+    n: StationCount,
+    m: CableCount,
 ) -> bool
-    requires { (n_stations ≤ 32) × (n_cables ≤ 64) }
-    ensures { result ≡ some n_cables (λ k. fast dt_ms (of y.now (n_stations + k)) (of before.now (n_stations + k))) }
+    ensures { result ≡ some m.value (λ k. fast dt_ms (of y.now (n.value + k)) (of before.now (n.value + k))) }
 {
-    for k in 0..n_cables {
-        if is_fast(dt_ms, y[n_stations + k], before[n_stations + k]) {
+    for k in 0..m.value {
+        if is_fast(dt_ms, y[n.value + k], before[n.value + k]) {
             return true;
         }
     }
@@ -105,11 +109,10 @@ fn is_fast(dt_ms: f64, current: f64, before: f64) -> bool
 }
 
 // Whether the voltage of some station is low.
-fn some_voltage_low(rated_kv: &[f64; 96], y: &[f64; 96], n_stations: usize) -> bool
-    requires { n_stations ≤ 32 }
-    ensures { result ≡ some n_stations (λ i. low (of y.now i) (of rated_kv.now i)) }
+fn some_voltage_low(rated_kv: &[f64; 96], y: &[f64; 96], n: StationCount) -> bool
+    ensures { result ≡ some n.value (λ i. low (of y.now i) (of rated_kv.now i)) }
 {
-    for i in 0..n_stations {
+    for i in 0..n.value {
         if is_low(y[i], rated_kv[i]) {
             return true;
         }

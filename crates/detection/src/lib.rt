@@ -3,4 +3,4 @@
 
 mod detect;
 
-pub use detect::{detect_fault, detects, shows_fault};
+pub use detect::{Seen, detect_fault, detects, shows_fault};

@@ -6,7 +6,7 @@ ghost use Rattle.fault_plan.specs.Plans.{constants_of, plan_of};
 use crate::variables::{FaultVariables, fresh_variables};
 use breaker_times::fastest_breaker_clearing_ms;
 use fault_circuit::{FaultCircuit, fault_circuit};
-use grid::{DcFaultEvent, DcSwitchingSimulator, MOST_STATIONS, present};
+use grid::{DcFaultEvent, DcSwitchingSimulator, MOST_STATIONS, StationCount};
 use network::{Drain, Network, drain_of, network_of};
 use run_start::{breakers_all, rated_voltages};
 use state_derivatives::DcTransientState;
@@ -33,6 +33,7 @@ pub struct FaultPlan {
 }
 
 // All that stays the same in the steps of any fault on any grid.
+#[tactic(auto, unfolding(crate::specs::Plans::plan_of))]
 pub fn fault_plan(g: DcSwitchingSimulator, fault: DcFaultEvent) -> FaultPlan
     ensures { result ≡ plan_of g fault }
 {
@@ -44,11 +45,12 @@ pub fn fault_plan(g: DcSwitchingSimulator, fault: DcFaultEvent) -> FaultPlan
 }
 
 // The same without the tables that the grid alone decides.
+#[tactic(auto, unfolding(crate::specs::Plans::constants_of))]
 pub fn fault_constants(g: DcSwitchingSimulator, fault: DcFaultEvent) -> FaultConstants
     ensures { result ≡ constants_of g fault }
 {
     FaultConstants {
-        n_stations: present(g.n_stations, MOST_STATIONS),
+        n_stations: StationCount::of(g.n_stations).value,
         drain: drain_of(g, fault),
         circuit: fault_circuit(g, fault),
         dt_ms: time_step_ms(g),
@@ -58,6 +60,7 @@ pub fn fault_constants(g: DcSwitchingSimulator, fault: DcFaultEvent) -> FaultCon
 }
 
 // The initial values of 000's variables: rated voltages, no current, all breakers closed.
+#[tactic(auto, unfolding(crate::specs::Fault::before_loop, run_start::specs::Start::rated_of, lists::specs::Tables::blank))]
 pub fn first_fault_variables(g: DcSwitchingSimulator) -> FaultVariables
     ensures { result ≡ before_loop g }
 {

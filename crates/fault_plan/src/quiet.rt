@@ -21,6 +21,7 @@ pub fn waits(k: FaultConstants, step: u64, v: FaultVariables) -> bool
 }
 
 // Whether the fault is cleared, no voltage is below its rated one, and the time of recovery stays as it is. Then this holds before every later step too.
+#[tactic(auto, unfolding(crate::specs::Quiet::rests_by))]
 pub fn rests(plan: FaultPlan, v: FaultVariables) -> bool
     ensures { result ≡ rests_by plan v }
 {
@@ -37,6 +38,7 @@ pub fn rests(plan: FaultPlan, v: FaultVariables) -> bool
 }
 
 // The variables after a step that changes no array: only the time goes on, and after clearing what is left of the current fades.
+#[tactic(auto, unfolding(crate::specs::Quiet::quiet_step))]
 pub fn quiet_step(k: FaultConstants, step: u64, v: FaultVariables) -> FaultVariables
     ensures { result ≡ quiet_step k step v }
 {

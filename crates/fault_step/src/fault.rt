@@ -115,6 +115,7 @@ fn after_clearing(plan: FaultPlan, v: FaultVariables, t_ms: f64) -> FaultVariabl
     }
 }
 
+// The first where the test holds, else the second. A function, so that a step has one path.
 fn choose(test: bool, yes: f64, no: f64) -> f64
     ensures { result ≡ cond test yes no }
 {

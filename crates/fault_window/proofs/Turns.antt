@@ -1,37 +1,59 @@
--- A loop that looks for the first number up to an end for which a test holds: the search from where it stands finds what the search from its start finds. And the window that two such numbers make. Assumes nothing.
-use Prim.Native.Nat.{ℕ, suc, ◌+◌, ◌-◌, ◌≤◌, ◌<◌}
+-- What a search of the numbers from one up to an end for the first that passes a test answers, and the window that two such searches make. Assumes nothing.
+use Prim.Native.Nat.{ℕ, zero, suc, ◌+◌, ◌-◌, ◌≤◌, ◌<◌, max}
+use native.Mathlib.Nat.{eq-or-lt_of_le}
 use native.Mathlib.Numerals.{add-one}
 use native.Mathlib.Omega.{arith}
 use borrow.Author.Tests.{lt-ltb, le-ltb}
-use mathlib.Core.Path.{◌≡◌}
+use mathlib.Core.Path.{◌≡◌, sym, ◌∙◌}
+use mathlib.Core.Logic.{⊎_elim}
 use mathlib.Core.Bool.{Bool, true, false}
+use Rattle.std.specs.Prelude.{Option, Some, None, MatchOption}
+use Rattle.std.specs.Option.{unwrap_or}
 use lib.Ieee.{Float}
 use Rattle.fault_window.specs.declared.steps.Window.{Window}
 use Rattle.fault_window.specs.Window.{until, active_in, clears_in, window_of}
 
-module _ (f : ℕ → Bool) (k end : ℕ) where
-  pub found : k < end → f k ≡ true → k ≡ until f k (end - k)
-  unfolding until
-  found l h = let e : end - k ≡ suc (end - (k + 1)) = omega arith in rw (e, h)
+module _ (f : ℕ → Bool) where
+  -- the first that passes is what is answered, and none where none passes
+  abbrev pub Sought : (first end : ℕ) → Option ℕ → Type 0
+  Sought first end o =
+      MatchOption o
+      ((k : ℕ) → first ≤ k → k < end → f k ≡ false)
+      (λ i. (first ≤ i) × (i < end) × (f i ≡ true) × ((k : ℕ) → first ≤ k → k < i → f k ≡ false))
 
-  pub further : k < end → f k ≡ false → until f (k + 1) (end - (k + 1)) ≡ until f k (end - k)
+  reached : (n first i : ℕ) → first ≤ i → i < first + n → f i ≡ true → ((k : ℕ) → first ≤ k → k < i → f k ≡ false) → until f first n ≡ i
   unfolding until
-  further l h = let e : end - k ≡ suc (end - (k + 1)) = omega arith in rw (e, h, add-one)
+  reached zero first i a b h none = absurd (omega arith)
+  reached (suc n) first i a b h none =
+      ⊎_elim
+      (λ e. let g : f first ≡ true = rw e h in rw g e)
+      (λ l. rw (none first (omega arith) l) (reached n (suc first) i l (omega arith) h (λ k p. none k (omega arith))))
+      (eq-or-lt_of_le a)
 
-  pub none : end ≤ k → k ≡ until f k (end - k)
+  missed : (n first : ℕ) → ((k : ℕ) → first ≤ k → k < first + n → f k ≡ false) → until f first n ≡ first + n
   unfolding until
-  none l = let e : end - k ≡ 0 = omega arith in rw e
+  missed zero first none = omega arith
+  missed (suc n) first none =
+      let e : suc first + n ≡ first + suc n = omega arith in
+      rw (none first (omega arith) (omega arith)) (missed n (suc first) (λ k p q. none k (omega arith) (omega arith)) ∙ e)
 
-module _ (dt inception clear : Float) (active : Bool) (first end : ℕ) {from last : ℕ}
-    (a : from ≡ until (active_in dt inception active) first (end - first))
-    (b : last ≡ until (clears_in dt inception clear) from (end - from)) where
+  pub sought : (first end : ℕ) (o : Option ℕ) → Sought first end o → unwrap_or o (max end first) ≡ until f first (end - first)
+  sought first end (Some i) h = sym (reached (end - first) first i h.0 (omega (arith, h.0, h.1)) h.2 h.3)
+  sought first end None h = sym (missed (end - first) first (λ k p q. h k p (omega arith)) ∙ (let e : first + (end - first) ≡ max end first = omega arith in e))
+
+module _ (dt inception clear : Float) (active : Bool) (first end : ℕ) {from : ℕ}
+    (a : from ≡ until (active_in dt inception active) first (end - first)) where
   abbrev window : (to : ℕ) → Bool → Window
   window to clears = record { from = from; to = to; clears = clears }
 
-  pub cleared : last < end → window (last + 1) true ≡ window_of dt inception clear active first end
+  pub cleared : (last : ℕ) → Sought (clears_in dt inception clear) from end (Some last) → window (last + 1) true ≡ window_of dt inception clear active first end
   unfolding window_of
-  cleared l = rw (← a, ← b, lt-ltb last end l, add-one)
+  cleared last h =
+      let b : last ≡ until (clears_in dt inception clear) from (end - from) = sought (clears_in dt inception clear) from end (Some last) h in
+      rw (← a, ← b, lt-ltb last end h.1, add-one)
 
-  pub lasting : end ≤ last → window end false ≡ window_of dt inception clear active first end
+  pub lasting : Sought (clears_in dt inception clear) from end None → window end false ≡ window_of dt inception clear active first end
   unfolding window_of
-  lasting l = rw (← a, ← b, le-ltb last end l)
+  lasting h =
+      let b : max end from ≡ until (clears_in dt inception clear) from (end - from) = sought (clears_in dt inception clear) from end None h in
+      rw (← a, ← b, le-ltb (max end from) end (omega arith))

@@ -3,4 +3,4 @@
 
 mod steps;
 
-pub use steps::{Window, fault_window};
+pub use steps::{FaultTimes, Window, fault_window};

@@ -1,6 +1,6 @@
 // The steps in which a fault lasts: from the first in which it is active to the one in which the breakers clear it.
-ghost use Rattle.std.specs.Prelude.{◌≡◌, ◌-◌, ℕ, Bool};
-ghost use Rattle.fault_window.specs.Window.{until, active_in, clears_in, window_of};
+ghost use Rattle.std.specs.Prelude.{◌≡◌};
+ghost use Rattle.fault_window.specs.Window.{active_in, clears_in, window_of};
 
 use run_start::step_time_ms;
 
@@ -15,60 +15,45 @@ pub struct Window {
     pub clears: bool,
 }
 
-// The window in the steps from `first` up to `end`, which is not made. The fault is active from its inception on, or in all of them where it is active already.
-// Where it is active in none, or `first` is not below `end`, no step lies in the window.
-pub fn fault_window(
-    dt_ms: f64,
-    inception_ms: f64,
-    clear_ms: f64,
-    active: bool,
-    first: u64,
-    end: u64,
-) -> Window
-    ensures { result ≡ window_of dt_ms inception_ms clear_ms active first end }
-{
-    let active_at = |step: u64| is_active(dt_ms, inception_ms, active, step);
-    let from = first_step(first, end, active_at);
-    let cleared_at = |step: u64| is_cleared(dt_ms, inception_ms, clear_ms, step);
-    let last = first_step(from, end, cleared_at);
-    if last < end {
-        let to = last + 1;
-        return Window {
-            from,
-            to,
-            clears: true,
-        };
-    }
-    Window {
-        from,
-        to: end,
-        clears: false,
-    }
+// When a fault comes and how long its clearing takes, in steps of `dt_ms`; all in milliseconds.
+#[derive(Clone, Copy)]
+pub struct FaultTimes {
+    pub dt_ms: f64,
+    pub inception_ms: f64,
+    pub clear_ms: f64,
 }
 
-// The first step from `first` on for which the test holds: `end` where there is none below it, and `first` where that is not below `end`.
-fn first_step<F: Fn(u64) -> bool>(first: u64, end: u64, test: F) -> u64
-    requires { F.IsAlwaysCallable test }
-    ensures { (f : ℕ → Bool) → ((k : ℕ) (b : Bool) → F.post test k b → b ≡ f k) → result ≡ until f first (end - first) }
+// The window in the steps from `first` up to `end`, which is not made. The fault is active from its inception on, or in all of them where it is active already.
+// Where it is active in none, or `first` is not below `end`, no step lies in the window.
+pub fn fault_window(times: FaultTimes, active: bool, first: u64, end: u64) -> Window
+    ensures { result ≡ window_of times.dt_ms times.inception_ms times.clear_ms active first end }
 {
-    for step in first..end {
-        if test(step) {
-            return step;
-        }
+    let begins = (first..end).find(|step| is_active(times, active, *step));
+    let from = begins.unwrap_or(end.max(first));
+    match (from..end).find(|step| is_cleared(times, *step)) {
+        Some(last) => Window {
+            from,
+            to: last + 1,
+            clears: true,
+        },
+        None => Window {
+            from,
+            to: end,
+            clears: false,
+        },
     }
-    if end < first { first } else { end }
 }
 
 // Whether the fault is active in a step: from its inception on, or already.
-fn is_active(dt_ms: f64, inception_ms: f64, active: bool, step: u64) -> bool
-    ensures { result ≡ active_in dt_ms inception_ms active step }
+fn is_active(times: FaultTimes, active: bool, step: u64) -> bool
+    ensures { result ≡ active_in times.dt_ms times.inception_ms active step }
 {
-    active | (inception_ms <= step_time_ms(dt_ms, step))
+    active | (times.inception_ms <= step_time_ms(times.dt_ms, step))
 }
 
 // Whether the time from inception to a step has reached that of the breakers.
-fn is_cleared(dt_ms: f64, inception_ms: f64, clear_ms: f64, step: u64) -> bool
-    ensures { result ≡ clears_in dt_ms inception_ms clear_ms step }
+fn is_cleared(times: FaultTimes, step: u64) -> bool
+    ensures { result ≡ clears_in times.dt_ms times.inception_ms times.clear_ms step }
 {
-    clear_ms <= step_time_ms(dt_ms, step) - inception_ms
+    times.clear_ms <= step_time_ms(times.dt_ms, step) - times.inception_ms
 }

@@ -1,15 +1,35 @@
 -- A record put down part by part. Assumes nothing.
-use Prim.Native.Nat.{ℕ, suc, ◌+◌}
+use Rattle.std.proofs.lemmas.List.{get_or-take, get_or-drop, get_or-map}
+use Prim.Native.Nat.{ℕ, suc, ◌+◌, ◌-◌, ◌≤◌}
 use native.Mathlib.Numerals.{add-one}
 use native.Mathlib.Omega.{arith}
 use mathlib.Core.Path.{◌≡◌, ap, sym, ◌∙◌}
-use mathlib.Core.List.{List, ◌∷◌, ◌++◌, append_assoc}
-use lib.ListN.{set}
-use lib.Seq.{sets}
-use lib.Ieee.{Float}
+use mathlib.Core.Bool.{Bool, false}
+use mathlib.Core.List.{List, ◌∷◌, ◌++◌, map, append_assoc}
+use lib.ListN.{length, get_or, take, drop, set, length-drop, length-map}
+use lib.Seq.{sets, length-take-le}
+use lib.Ieee.{Float, nan}
 use Rattle.lists.specs.Tables.{tab}
-use Rattle.lists.proofs.Fills.{length-tab}
+use Rattle.lists.proofs.Fills.{length-tab, is_tab}
 use Rattle.lists.proofs.Stores.{sets_append}
+use Rattle.float64.specs.Arithmetic.{of}
+use Rattle.records.specs.Records.{closed_number}
+
+-- the first n numbers, and the m behind them, as tables
+pub taken : (n : ℕ) (x : List Float) → n ≤ length x → take n x ≡ tab n (of x)
+taken n x h = is_tab n (of x) nan (take n x) (length-take-le n x h) (λ k l. get_or-take n x k nan l)
+
+pub taken_behind : (n m : ℕ) (x : List Float) → n + m ≤ length x → take (n + m - n) (drop n x) ≡ tab m (λ k. of x (n + k))
+taken_behind n m x h =
+    let e : n + m - n ≡ m = omega arith in
+    rw e (is_tab m _ nan (take m (drop n x)) (length-take-le m (drop n x) (omega (arith, length-drop n x))) (λ k l. get_or-take m (drop n x) k nan l ∙ get_or-drop n x k nan))
+
+-- and the first n breakers
+pub mapped : (n : ℕ) (b : List Bool) → n ≤ length b → map closed_number (take n b) ≡ tab n (λ i. closed_number (get_or b i false))
+mapped n b h =
+    let long = length-take-le n b h in
+    is_tab n _ nan (map closed_number (take n b)) (length-map (take n b) closed_number ∙ long)
+    (λ k l. get_or-map closed_number (take n b) k false nan (omega (arith, long)) ∙ ap closed_number (get_or-take n b k false l))
 
 -- a table, and what follows it
 behind : (d : List Float) (at n : ℕ) (f : ℕ → Float) (e : List Float) → sets (sets d at (tab n f)) (at + n) e ≡ sets d at (tab n f ++ e)

@@ -1,11 +1,9 @@
 // A state as a record in lent memory: time, fault current, voltages, station currents, cable currents, breakers.
-ghost use Rattle.std.specs.Prelude.{◌≡◌, false, cond, [], ◌+◌, ◌≤◌, length, get_or};
+ghost use Rattle.std.specs.Prelude.{◌≡◌, cond, [], ◌+◌, ◌≤◌, length, map};
 ghost use Rattle.std.proofs.lemmas.List.Edits.{sets};
-ghost use Rattle.lists.specs.Tables.{tab};
-ghost use Rattle.float64.specs.Arithmetic.{of};
 ghost use Rattle.records.specs.Records.{closed_number, Counted, counts_of, numbers_in, record_by, fits_in, puts};
 
-use grid::{DcSwitchingSimulator, MOST_BREAKERS, MOST_CABLES, MOST_STATIONS, present};
+use grid::{DcSwitchingSimulator, MOST_BREAKERS, MOST_CABLES, MOST_STATIONS};
 use state_derivatives::DcTransientState;
 
 // How many of each a record has.
@@ -21,9 +19,9 @@ pub fn record_counts(g: DcSwitchingSimulator) -> RecordCounts
     ensures { result ≡ counts_of g }
 {
     RecordCounts {
-        stations: present(g.n_stations, MOST_STATIONS),
-        cables: present(g.n_cables, MOST_CABLES),
-        breakers: present(g.n_breakers, MOST_BREAKERS),
+        stations: g.present_stations().len(),
+        cables: g.present_cables().len(),
+        breakers: g.present_breakers().len(),
     }
 }
 
@@ -67,6 +65,7 @@ fn fits(counts: RecordCounts, at: usize, len: usize) -> bool
     true
 }
 
+// A state's record. The counts are any numbers, so that they fit is asked (`Counted`): with a `Count` for each in `RecordCounts`, `put_if_recorded` would take fewer counts than it does.
 fn put_record(records: &mut [f64], at: usize, state: DcTransientState, counts: RecordCounts)
     requires { Counted counts × (at + numbers_in counts ≤ length records.old) }
     ensures { records.new ≡ sets records.old at (record_by counts state) }
@@ -81,29 +80,27 @@ fn put_record(records: &mut [f64], at: usize, state: DcTransientState, counts: R
     let cable_currents = station_currents + n;
     records[at] = state.time_ms;
     records[at + 1] = state.fault_current_ka;
-    put_numbers(records, voltages, &y, 0, n);
-    put_numbers(records, station_currents, &currents, 0, n);
-    put_numbers(records, cable_currents, &y, n, m);
-    put_breakers(records, cable_currents + m, &breakers, counts.breakers);
+    put_numbers(records, voltages, &y[..n]);
+    put_numbers(records, station_currents, &currents[..n]);
+    put_numbers(records, cable_currents, &y[n..n + m]);
+    put_breakers(records, cable_currents + m, &breakers[..counts.breakers]);
 }
 
-// Writes n numbers, those from `first` on.
-fn put_numbers(records: &mut [f64], at: usize, numbers: &[f64], first: usize, n: usize)
-    requires { (at + n ≤ length records.old) × (first + n ≤ length numbers.now) }
-    ensures { records.new ≡ sets records.old at (tab n (λ i. of numbers.now (first + i))) }
+// Writes numbers from a position on.
+fn put_numbers(records: &mut [f64], at: usize, numbers: &[f64])
+    requires { at + length numbers.now ≤ length records.old }
+    ensures { records.new ≡ sets records.old at numbers.now }
 {
-    for i in 0..n {
-        records[at + i] = numbers[first + i];
-    }
+    records[at..at + numbers.len()].copy_from_slice(numbers);
 }
 
-// Writes n breakers, 1 closed and 0 open.
-fn put_breakers(records: &mut [f64], at: usize, breakers: &[bool; MOST_BREAKERS], n: usize)
-    requires { (at + n ≤ length records.old) × (n ≤ 32) }
-    ensures { records.new ≡ sets records.old at (tab n (λ i. closed_number (get_or breakers.now i false))) }
+// Writes breakers, 1 closed and 0 open.
+fn put_breakers(records: &mut [f64], at: usize, breakers: &[bool])
+    requires { at + length breakers.now ≤ length records.old }
+    ensures { records.new ≡ sets records.old at (map closed_number breakers.now) }
 {
-    for i in 0..n {
-        records[at + i] = closed_number(breakers[i]);
+    for (i, closed) in breakers.iter().enumerate() {
+        records[at + i] = closed_number(*closed);
     }
 }
 

@@ -9,14 +9,14 @@ ghost use Rattle.recovery.specs.Constants.{recovered_part};
 ghost use Rattle.recovery.specs.Recovery.{recovering};
 
 use float64::min;
-use grid::{MOST_STATIONS, present};
+use grid::StationCount;
 
-// Moves each voltage one step towards its rated one.
+// Moves each voltage one step towards its rated one. Here and below two arrays share a count: as slices each would need a clause that it is as long as the other.
 pub fn recover_voltages(y: &mut [f64; 96], rated: &[f64; 96], n_stations: usize)
     ensures { y.new ≡ over (min n_stations 32) (λ i. recovering (of rated.now i) (of y.old i)) nan y.old }
 {
-    let n = present(n_stations, MOST_STATIONS);
-    for i in 0..n {
+    let n = StationCount::of(n_stations);
+    for i in 0..n.value {
         y[i] = recovered(y[i], rated[i]);
     }
 }
@@ -35,8 +35,8 @@ fn recovered(v: f64, rated: f64) -> f64
 pub fn all_recovered(y: &[f64; 96], rated: &[f64; 96], n_stations: usize) -> bool
     ensures { result ≡ each (min n_stations 32) (λ i. le (recovered_part ⊗ of rated.now i) (of y.now i)) }
 {
-    let n = present(n_stations, MOST_STATIONS);
-    for i in 0..n {
+    let n = StationCount::of(n_stations);
+    for i in 0..n.value {
         if !has_recovered(y[i], rated[i]) {
             return false;
         }
@@ -54,8 +54,8 @@ fn has_recovered(v: f64, rated: f64) -> bool
 pub fn none_below(y: &[f64; 96], rated: &[f64; 96], n_stations: usize) -> bool
     ensures { result ≡ each (min n_stations 32) (λ i. not (lt (of y.now i) (of rated.now i))) }
 {
-    let n = present(n_stations, MOST_STATIONS);
-    for i in 0..n {
+    let n = StationCount::of(n_stations);
+    for i in 0..n.value {
         if y[i] < rated[i] {
             return false;
         }

@@ -1,10 +1,11 @@
 // The body of the loop in 000's simulate_switching.
-ghost use Rattle.std.specs.Prelude.{◌≡◌, not, cond, ◌≤◌, min};
-ghost use Rattle.network.specs.Network.{station_count, cable_count};
+ghost use Rattle.std.specs.Prelude.{◌≡◌, not, cond, length, map};
+ghost use Rattle.float64.specs.Arithmetic.{◌⊗◌};
+ghost use Rattle.float64.specs.Constants.{half};
 ghost use Rattle.switching_plan.specs.Switching.{is_operated, breakers_after, interrupted};
 ghost use Rattle.switching_plan.specs.Plans.{switching_plan_step};
 
-use grid::{MOST_BREAKERS, MOST_CABLES, MOST_STATIONS, present};
+use grid::{BreakerCount, CableCount, MOST_BREAKERS, StationCount};
 use network::no_drain;
 use run_start::step_time_ms;
 use state_derivatives::DcTransientState;
@@ -12,6 +13,7 @@ use switching_plan::{SwitchingPlan, SwitchingVariables};
 use transient::rk4_step;
 
 // The variables after a step; steps are numbered from 0. The first step whose time has come operates the breakers before it moves the state.
+#[tactic(auto, unfolding(switching_plan::specs::Plans::switching_plan_step, switching_plan::specs::Switching::switch_body, switching_plan::specs::Switching::operated_state))]
 pub fn switching_step(plan: SwitchingPlan, step: u64, v: SwitchingVariables) -> SwitchingVariables
     ensures { result ≡ switching_plan_step plan step v }
 {
@@ -27,14 +29,14 @@ pub fn switching_step(plan: SwitchingPlan, step: u64, v: SwitchingVariables) -> 
         &mut breakers,
         switches,
         plan.breaker_id,
-        plan.n_breakers,
+        BreakerCount::of(plan.n_breakers),
         plan.open,
     );
     interrupt(
         &mut y,
         switches & plan.open,
-        network.n_stations,
-        network.n_cables,
+        StationCount::of(network.n_stations),
+        CableCount::of(network.n_cables),
     );
     let before = DcTransientState {
         time_ms: t_ms,
@@ -50,32 +52,28 @@ pub fn switching_step(plan: SwitchingPlan, step: u64, v: SwitchingVariables) -> 
     }
 }
 
-// Sets the breaker of a number, or all where the grid has none of that number, in the step that switches.
+// Sets the breaker of a number, or all where the grid has none of that number, in the step that switches. The array is lent whole with its count, here and in
+// `interrupt`: whether the step switches is asked here, so that a step has one path, and only then is the slice of it made.
 fn operate(
     breakers: &mut [bool; MOST_BREAKERS],
     switches: bool,
     breaker_id: u64,
-    n_breakers: usize,
+    n: BreakerCount,
     open: bool,
 )
-    ensures { breakers.new ≡ cond switches (breakers_after (min n_breakers 32) breaker_id «open» breakers.old) breakers.old }
+    ensures { breakers.new ≡ cond switches (breakers_after n.value breaker_id «open» breakers.old) breakers.old }
 {
     if switches {
-        set_operated(
-            breakers,
-            present(n_breakers, MOST_BREAKERS),
-            breaker_id,
-            open,
-        );
+        set_operated(&mut breakers[..n.value], breaker_id, open);
     }
 }
 
-fn set_operated(breakers: &mut [bool; MOST_BREAKERS], n: usize, breaker_id: u64, open: bool)
-    requires { n ≤ 32 }
-    ensures { breakers.new ≡ breakers_after n breaker_id «open» breakers.old }
+fn set_operated(breakers: &mut [bool], breaker_id: u64, open: bool)
+    ensures { breakers.new ≡ breakers_after (length breakers.old) breaker_id «open» breakers.old }
 {
-    for i in 0..n {
-        breakers[i] = operated(breakers[i], i as u64, n as u64, breaker_id, open);
+    let n = breakers.len() as u64;
+    for (i, closed) in breakers.iter_mut().enumerate() {
+        *closed = operated(*closed, i as u64, n, breaker_id, open);
     }
 }
 
@@ -90,23 +88,18 @@ fn operated(closed: bool, i: u64, n: u64, breaker_id: u64, open: bool) -> bool
 }
 
 // Halves the cable currents in the step that opens.
-fn interrupt(y: &mut [f64; 96], opens: bool, n_stations: usize, n_cables: usize)
-    ensures { y.new ≡ cond opens (interrupted (station_count n_stations) (cable_count n_cables) y.old) y.old }
+fn interrupt(y: &mut [f64; 96], opens: bool, n: StationCount, m: CableCount)
+    ensures { y.new ≡ cond opens (interrupted n.value m.value y.old) y.old }
 {
     if opens {
-        halve_currents(
-            y,
-            present(n_stations, MOST_STATIONS),
-            present(n_cables, MOST_CABLES),
-        );
+        halve(&mut y[n.value..n.value + m.value]);
     }
 }
 
-fn halve_currents(y: &mut [f64; 96], n: usize, m: usize)
-    requires { (n ≤ 32) × (m ≤ 64) }
-    ensures { y.new ≡ interrupted n m y.old }
+fn halve(currents: &mut [f64])
+    ensures { currents.new ≡ map (λ i. i ⊗ half) currents.old }
 {
-    for i in n..n + m {
-        y[i] = y[i] * 0.5;
+    for current in currents.iter_mut() {
+        *current = *current * 0.5;
     }
 }

@@ -6,4 +6,4 @@ use Rattle.detection.proofs.detect.some_current_fast.Goals as goal
 
 pub returns-then-is_fast : goal.returns-then-is_fast
 returns-then-is_fast c =
-    sym (some_found (fast_cable c.args.n_stations c.args.dt_ms c.args.y.now c.args.before.now) c.args.n_cables c.loop-k.k c.loop-k-test.true (sym c.is_fast.ensures ∙ c.if-is_fast.true))
+    sym (some_found (fast_cable c.args.n.value c.args.dt_ms c.args.y.now c.args.before.now) c.args.m.value c.loop-k.k c.loop-k-test.true (sym c.is_fast.ensures ∙ c.if-is_fast.true))

@@ -6,4 +6,4 @@ use mathlib.Core.Path.{◌≡◌}
 use Rattle.detection.proofs.detect.some_current_fast.Given as goal
 
 abbrev pub invariant-loop-k : goal.invariant-loop-k
-invariant-loop-k l = some l.k (fast_cable l.n_stations l.dt_ms l.y l.before) ≡ false
+invariant-loop-k l = some l.k (fast_cable l.n.value l.dt_ms l.y l.before) ≡ false

@@ -7,4 +7,4 @@ use Rattle.detection.proofs.detect.some_voltage_low.Goals as goal
 
 pub returns-then-is_low : goal.returns-then-is_low
 returns-then-is_low c =
-    sym (some_found (λ k. low (of c.args.y.now k) (of c.args.rated_kv.now k)) c.args.n_stations c.loop-i.i c.loop-i-test.true (sym c.is_low.ensures ∙ c.if-is_low.true))
+    sym (some_found (λ k. low (of c.args.y.now k) (of c.args.rated_kv.now k)) c.args.n.value c.loop-i.i c.loop-i-test.true (sym c.is_low.ensures ∙ c.if-is_low.true))

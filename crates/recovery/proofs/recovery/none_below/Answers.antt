@@ -7,4 +7,4 @@ use Rattle.recovery.proofs.recovery.none_below.Goals as goal
 
 pub returns-then-y-i : goal.returns-then-y-i
 returns-then-y-i c =
-    rw (← c.present-n.ensures) (ap not (sym (some_found (below c.args.y.now c.args.rated.now) c.present-n.result c.loop-i.i c.loop-i-test.true (ap (λ (b : Bool). not (not b)) c.if-y-i.true))))
+    rw (← c.of-n.ensures) (ap not (sym (some_found (below c.args.y.now c.args.rated.now) c.of-n.result.value c.loop-i.i c.loop-i-test.true (ap (λ (b : Bool). not (not b)) c.if-y-i.true))))

@@ -21,5 +21,5 @@ pub returns : goal.returns
 returns c =
     let moved : ℕ → Float = λ i. recovering (of c.args.rated.now i) (of c.args.y.now i) in
     at_end_lem (λ k. upto k moved c.args.y.now) c.loop-i.auto.i-end c.loop-i-test.false c.loop-i.invariant
-    ∙ upto_over c.present-n.result moved nan c.args.y.now
-    ∙ λ i. over (c.present-n.ensures i) moved nan c.args.y.now
+    ∙ upto_over c.of-n.result.value moved nan c.args.y.now
+    ∙ λ i. over (c.of-n.ensures i) moved nan c.args.y.now

@@ -5,7 +5,7 @@ use native.Mathlib.Omega.{arith}
 use mathlib.Core.Path.{◌∙◌}
 use Rattle.switching_plan.specs.Switching.{is_operated}
 use mathlib.Core.Bool.{false, not, cond}
-use lib.ListN.{get_or}
+use lib.ListN.{length, get_or}
 use Rattle.switching_step.proofs.switching.set_operated.Goals as goal
 
 pub loop-i-init : goal.loop-i-init
@@ -17,5 +17,7 @@ loop-i-preserved c =
 
 pub returns : goal.returns
 returns c =
-    at_end_lem (λ k. upto k (λ i. cond (is_operated c.args.n c.args.breaker_id i) (not c.args.open) (get_or c.args.breakers.now i false)) c.args.breakers.now) c.loop-i.auto.i-end c.loop-i-test.false c.loop-i.invariant
-    ∙ upto_over c.args.n _ false c.args.breakers.now
+    let before = c.args.breakers.now in
+    let n = length before in
+    at_end_lem (λ k. upto k (λ i. cond (is_operated n c.args.breaker_id i) (not c.args.open) (get_or before i false)) before) c.loop-i.auto.i-end c.loop-i-test.false c.loop-i.invariant
+    ∙ upto_over n _ false before
