@@ -12,12 +12,11 @@ use Rattle.rule_tests.specs.Rules.{too_many_parts}
 use Rattle.rules.specs.Studies.{fault_refusal, first, broken}
 use Rattle.rule_claims.proofs.Claims.{accepted_claims}
 use Rattle.portions.specs.Calls.{Chain}
-use Rattle.fault_plan.specs.Fault.{fault_body, fault_after}
+use Rattle.fault_plan.specs.Fault.{fault_after}
 use Rattle.runs.specs.Runs.{Calls, InPortions}
 use Rattle.runs.proofs.Portions.{in_portions}
-use Rattle.fault_runs.specs.FaultRuns.{fault_run_refused, fault_stepper, fault_run_after, started_fault_run, blank_fault_run, fault_figures, fault_results, figures_so_far}
+use Rattle.fault_runs.specs.FaultRuns.{fault_run_refused, next_fault_run, fault_records, fault_kind, fault_stepper, fault_run_after, started_fault_run, blank_fault_run, fault_figures, fault_results, figures_so_far}
 use Rattle.fault_run_claims.specs.Claims.{fault_run, FaultRunClaims}
-use Rattle.fault_runs.proofs.FaultLoop.{fault_kind}
 
 module _ (g : DcSwitchingSimulator) (f : DcFaultEvent) (z : fault_refusal g f ≡ 0) where
   taken : (t : ℕ) → t ≤ steps_of g → fault_run_refused (fault_run_after g f t) ≡ false
@@ -36,12 +35,13 @@ module _ (g : DcSwitchingSimulator) (f : DcFaultEvent) (z : fault_refusal g f �
   unfolding fault_figures
   figures_before t l = rw (step_claims.counted (steps_of g) (accepted_claims.fault g f z), ne_eqb t (steps_of g) (λ e. omega arith))
 
-  steps : (t : ℕ) → fault_after g f (suc t) ≡ fault_body g f t (fault_after g f t)
-  unfolding fault_after
+  steps : (t : ℕ) → fault_run_after g f (suc t) ≡ fault_kind.next (fault_run_after g f t)
+  unfolding fault_after next_fault_run
   steps t = refl
 
   whole : (cs : Calls (fault_run g f)) → Chain fault_stepper (started_fault_run g f) cs → InPortions (fault_run g f) cs
-  whole cs chain = in_portions (fault_kind g f) (fault_after g f) steps taken fault_figures _ finally cs (rw started at chain)
+  unfolding fault_records
+  whole cs chain = in_portions fault_kind g (fault_run_after g f) (λ t. refl) (λ t. refl) steps taken fault_figures _ finally cs (rw started at chain)
 
 -- a grid of zeros has no station
 no_station_lem : fault_refusal blank_fault_run.grid blank_fault_run.fault ≡ 1

@@ -30,7 +30,7 @@ use Rattle.records.specs.Records.{record_with}
 use Rattle.runs.specs.declared.result.DcTransientResult.{DcTransientResult}
 use Rattle.runs.specs.Runs.{states_after, InPortions}
 use Rattle.fault_runs.specs.declared.fault_run.FaultRun.{FaultRun}
-use Rattle.fault_runs.specs.declared.fault_run.AdvancedFaultRun.{AdvancedFaultRun}
+use Rattle.runs.specs.declared.stepping.Advanced.{Advanced}
 use Rattle.fault_runs.specs.FaultRuns.{fault_run_refused, next_fault_run, fault_records, fault_stepper, fault_run_after, started_fault_run, blank_fault_run, advanced_fault_run, fault_figures}
 use Rattle.fault_run_claims.specs.Claims.{fault_run}
 use Rattle.fault_run_claims.proofs.Claims.{fault_run_claims}
@@ -114,7 +114,7 @@ figures_are = (refl, refl, refl)
 numbers : ℕ → List Float
 numbers n = blank n (whole 50)
 
-answer : Stop → (steps records : ℕ) → FaultRun → AdvancedFaultRun
+answer : Stop → (steps records : ℕ) → FaultRun → Advanced FaultRun
 answer stop steps records run = record { stop = stop; steps = steps; records = records; run = run }
 
 -- 3 steps of 1 ms, after some of them; each is recorded, with 9 numbers

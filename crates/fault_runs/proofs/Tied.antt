@@ -1,19 +1,41 @@
 -- What a caller learns from the contracts in src/, as Rattle reads their clauses, is the definition of the result, and nothing is asked of the caller. Assumes nothing.
+use Prim.Native.Nat.{◌<◌}
 use mathlib.Core.Path.{◌≡◌, ap}
+use mathlib.Core.Bool.{false}
 use lib.Ieee.{Float}
 use contract.Lifetimes.{Lfts}
 use borrow.Fn.World.{ArgsD, ResD}
 use borrow.Fn.Kinds.{ended_of}
 use denote.Triple.Clauses.{AtExit}
+use Rattle.timing.specs.Steps.{most_steps}
 use Rattle.portions.specs.Calls.{Called, Made}
+use Rattle.runs.specs.Kinds.{Ready, Stepped}
 use Rattle.fault_runs.specs.declared.fault_run.FaultRun.{FaultRun}
-use Rattle.fault_runs.specs.FaultRuns.{fault_stepper, advanced_fault_run, fault_figures}
+use Rattle.fault_runs.specs.FaultRuns.{fault_kind, FaultPlanned, fault_stepper, advanced_fault_run, fault_figures}
 use Rattle.fault_runs.specs.contracts.fault_run.FaultRun.advance as advance-contract
 use Rattle.fault_runs.proofs.fault_run.FaultRun.advance.Kinds as advance-kinds
 use Rattle.fault_runs.proofs.fault_run.FaultRun.advance.Reads as advance-reads
 use Rattle.fault_runs.specs.contracts.fault_run.FaultRun.figures as figures-contract
 use Rattle.fault_runs.proofs.fault_run.FaultRun.figures.Kinds as figures-kinds
 use Rattle.fault_runs.proofs.fault_run.FaultRun.figures.Reads as figures-reads
+use Rattle.fault_runs.specs.contracts.fault_run.FaultRunRun.is_refused as is_refused-contract
+use Rattle.fault_runs.proofs.fault_run.FaultRunRun.is_refused.Kinds as is_refused-kinds
+use Rattle.fault_runs.proofs.fault_run.FaultRunRun.is_refused.Reads as is_refused-reads
+use Rattle.fault_runs.specs.contracts.fault_run.FaultRunRun.grid as grid-contract
+use Rattle.fault_runs.proofs.fault_run.FaultRunRun.grid.Kinds as grid-kinds
+use Rattle.fault_runs.proofs.fault_run.FaultRunRun.grid.Reads as grid-reads
+use Rattle.fault_runs.specs.contracts.fault_run.FaultRunRun.steps_made as steps_made-contract
+use Rattle.fault_runs.proofs.fault_run.FaultRunRun.steps_made.Kinds as steps_made-kinds
+use Rattle.fault_runs.proofs.fault_run.FaultRunRun.steps_made.Reads as steps_made-reads
+use Rattle.fault_runs.specs.contracts.fault_run.FaultRunRun.state as state-contract
+use Rattle.fault_runs.proofs.fault_run.FaultRunRun.state.Kinds as state-kinds
+use Rattle.fault_runs.proofs.fault_run.FaultRunRun.state.Reads as state-reads
+use Rattle.fault_runs.specs.contracts.fault_run.FaultRunRun.plan as plan-contract
+use Rattle.fault_runs.proofs.fault_run.FaultRunRun.plan.Kinds as plan-kinds
+use Rattle.fault_runs.proofs.fault_run.FaultRunRun.plan.Reads as plan-reads
+use Rattle.fault_runs.specs.contracts.fault_run.FaultRunRun.step as step-contract
+use Rattle.fault_runs.proofs.fault_run.FaultRunRun.step.Kinds as step-kinds
+use Rattle.fault_runs.proofs.fault_run.FaultRunRun.step.Reads as step-reads
 
 module _ (κs : Lfts 1) (a : ArgsD advance-contract.signature κs) (r : ResD advance-contract.signature κs) (e : AtExit (ended_of 1 advance-kinds.ps advance-kinds.r) κs) where
   pub advance_any : advance-reads.Asked κs a
@@ -40,3 +62,46 @@ module _ (κs : Lfts 0) (a : ArgsD figures-contract.signature κs) (r : ResD fig
 
   pub figures_are : figures-reads.Learnt κs a r e → r ≡ fault_figures a.0
   figures_are h = h
+
+-- a run as one of a kind, method by method
+module _ (κs : Lfts 1) (a : ArgsD is_refused-contract.signature κs) (r : ResD is_refused-contract.signature κs) (e : AtExit (ended_of 1 is_refused-kinds.ps is_refused-kinds.r) κs) where
+  pub is_refused_any : is_refused-reads.Asked κs a
+  is_refused_any = tt
+
+  pub is_refused_is : is_refused-reads.Learnt κs a r e → r ≡ fault_kind.refused a.0.now
+  is_refused_is h = h
+
+module _ (κs : Lfts 1) (a : ArgsD grid-contract.signature κs) (r : ResD grid-contract.signature κs) (e : AtExit (ended_of 1 grid-kinds.ps grid-kinds.r) κs) where
+  pub grid_any : grid-reads.Asked κs a
+  grid_any = tt
+
+  pub grid_is : grid-reads.Learnt κs a r e → r ≡ fault_kind.grid a.0.now
+  grid_is h = h
+
+module _ (κs : Lfts 1) (a : ArgsD steps_made-contract.signature κs) (r : ResD steps_made-contract.signature κs) (e : AtExit (ended_of 1 steps_made-kinds.ps steps_made-kinds.r) κs) where
+  pub steps_made_any : steps_made-reads.Asked κs a
+  steps_made_any = tt
+
+  pub steps_made_is : steps_made-reads.Learnt κs a r e → r ≡ fault_kind.steps_made a.0.now
+  steps_made_is h = h
+
+module _ (κs : Lfts 1) (a : ArgsD state-contract.signature κs) (r : ResD state-contract.signature κs) (e : AtExit (ended_of 1 state-kinds.ps state-kinds.r) κs) where
+  pub state_any : state-reads.Asked κs a
+  state_any = tt
+
+  pub state_is : state-reads.Learnt κs a r e → r ≡ fault_kind.state a.0.now
+  state_is h = h
+
+module _ (κs : Lfts 1) (a : ArgsD plan-contract.signature κs) (r : ResD plan-contract.signature κs) (e : AtExit (ended_of 1 plan-kinds.ps plan-kinds.r) κs) where
+  pub plan_any : plan-reads.Asked κs a
+  plan_any = tt
+
+  pub plan_is : plan-reads.Learnt κs a r e → fault_kind.refused a.0.now ≡ false → FaultPlanned a.0.now r × Ready a.0.now.grid a.0.now.steps_made
+  plan_is h taken = (h.0 taken, h.1 taken)
+
+module _ (κs : Lfts 2) (a : ArgsD step-contract.signature κs) (r : ResD step-contract.signature κs) (e : AtExit (ended_of 2 step-kinds.ps step-kinds.r) κs) where
+  pub step_any : step-reads.Asked κs a
+  step_any = tt
+
+  pub step_is : step-reads.Learnt κs a r e → FaultPlanned a.0.now a.1.0.now → a.0.now.steps_made < most_steps → Stepped fault_kind FaultPlanned a.0.now e.0.now e.1.0.now
+  step_is h = h

@@ -1,5 +1,5 @@
 -- Fault runs in portions, document 01.5. Definitions only.
-use Rattle.std.specs.Prelude.{ℕ, suc, Bool, not, ◌||◌, cond, List, [], ◌∷◌, eqb, ltb, length, Float}
+use Rattle.std.specs.Prelude.{ℕ, suc, ◌≡◌, Bool, true, not, ◌||◌, cond, List, [], ◌∷◌, eqb, ltb, length, Float}
 use Rattle.float64.specs.Constants.{nought}
 use Rattle.grid.specs.declared.parts.DcFaultType.TheVariants.{PoleToGround}
 use Rattle.grid.specs.declared.parts.DcFaultEvent.{DcFaultEvent}
@@ -9,10 +9,14 @@ use Rattle.rules.specs.Studies.{fault_refusal}
 use Rattle.portions.specs.Stopping.{Stepper, answer_of}
 use Rattle.fault_plan.specs.declared.variables.FaultVariables.{FaultVariables}
 use Rattle.fault_plan.specs.Fault.{fault_body, fresh_variables, fault_after}
+use Rattle.fault_plan.specs.Plans.{plan_step}
+use Rattle.fault_plan.specs.Quiet.{rests_by}
 use Rattle.fault_runs.specs.declared.fault_run.FaultRun.{FaultRun}
-use Rattle.fault_runs.specs.declared.fault_run.AdvancedFaultRun.{AdvancedFaultRun}
+use Rattle.fault_runs.specs.declared.fault_run.FaultSteps.{FaultSteps}
 use Rattle.records.specs.Records.{record_of}
 use Rattle.runs.specs.declared.result.DcTransientResult.{DcTransientResult}
+use Rattle.runs.specs.declared.stepping.Advanced.{Advanced}
+use Rattle.runs.specs.Kinds.{RunKind}
 use Rattle.runs.specs.Blank.{blank_grid, blank_state}
 
 -- ---- one step of a kept run
@@ -50,6 +54,15 @@ fault_stepper =
       next = next_fault_run;
     }
 
+-- what an advance reads of a fault run; its `run_stepper` is `fault_stepper`
+abbrev pub fault_kind : RunKind FaultRun
+fault_kind = record { refused = fault_run_refused; grid = λ r. r.grid; steps_made = λ r. r.steps_made; state = λ r. r.variables.state; next = next_fault_run }
+
+-- steps by the plan are the run's own, and the flag is set only where it rests
+abbrev pub FaultPlanned : FaultRun → FaultSteps → Type 0
+FaultPlanned r p =
+    ((j : ℕ) (w : FaultVariables) → plan_step p.plan j w ≡ fault_body r.grid r.fault j w) × (p.resting ≡ true → rests_by p.plan r.variables ≡ true)
+
 -- ---- what the functions return
 
 -- beside a refusal: all zero and false
@@ -71,7 +84,7 @@ unfoldable pub started_fault_run : DcSwitchingSimulator → DcFaultEvent → Fau
 started_fault_run g f = cond (eqb (fault_refusal g f) 0) (fault_run_after g f 0) blank_fault_run
 
 -- what `advance` returns; the lent memory after it is `memory_of fault_stepper`
-unfoldable pub advanced_fault_run : FaultRun → (allowance : ℕ) → List Float → AdvancedFaultRun
+unfoldable pub advanced_fault_run : FaultRun → (allowance : ℕ) → List Float → Advanced FaultRun
 advanced_fault_run r allowance lent =
     let x = answer_of fault_stepper r allowance lent in
     record { stop = x.stop; steps = x.steps; records = length x.items; run = x.kept }

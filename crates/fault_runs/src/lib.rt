@@ -4,5 +4,5 @@
 mod fault_run;
 
 pub use fault_plan::FaultVariables;
-pub use fault_run::{AdvancedFaultRun, FaultRun};
-pub use runs::DcTransientResult;
+pub use fault_run::{FaultRun, FaultSteps};
+pub use runs::{Advanced, DcTransientResult};

@@ -1,4 +1,4 @@
--- One turn of an advance's loop, of any run
+-- The loop of an advance, of any kind of run
 pub mod Turns
 -- A run of any kind meets `InPortions`
 pub mod Portions

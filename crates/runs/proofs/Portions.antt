@@ -15,24 +15,29 @@ use Rattle.portions.proofs.Course.{course_claims, chain_and}
 use Rattle.records.specs.Records.{record_of}
 use Rattle.runs.specs.declared.result.DcTransientResult.{DcTransientResult}
 use Rattle.runs.specs.Runs.{Run, states_after, Calls, InPortions}
-use Rattle.runs.proofs.Turns.{Kind, joined-one, count_one, length-one, record_long}
+use Rattle.runs.specs.Kinds.{RunKind, run_stepper}
+use Rattle.runs.proofs.Turns.{joined-one, count_one, length-one, record_long}
 
 last_and : {K : Type 0} (s : K) (cs : List (Called Float K)) (c : Called Float K) → last s (and cs c) ≡ c.kept
 unfolding last
 last_and s [] c = refl
 last_and s (d ∷ cs) c = last_and d.kept cs c
 
--- A whole run of a kind: its variables after t steps.
-module _ {m : Stepper Float} {g : DcSwitchingSimulator} {Vars : Type 0} (k : Kind m g Vars) (after : ℕ → Vars) (steps : (t : ℕ) → after (suc t) ≡ k.body t (after t))
-    (taken : (t : ℕ) → t ≤ steps_of g → m.refused (k.run t (after t)) ≡ false) where
-  abbrev pub at : ℕ → m.Kept
-  at t = k.run t (after t)
+-- A whole run of a kind: the runs after t steps.
+module _ {K : Type 0} (k : RunKind K) (g : DcSwitchingSimulator) (at : ℕ → K) (on : (t : ℕ) → k.grid (at t) ≡ g) (counted : (t : ℕ) → k.steps_made (at t) ≡ t)
+    (steps : (t : ℕ) → at (suc t) ≡ k.next (at t)) (taken : (t : ℕ) → t ≤ steps_of g → k.refused (at t) ≡ false) where
+  abbrev m : Stepper Float
+  m = run_stepper k
 
   abbrev N : ℕ
   N = steps_of g
 
-  written : (t : ℕ) → m.items (at t) ≡ cond (recorded N t) (record_of g (k.state (after (suc t))) ∷ []) []
-  written t = rw (steps t) (k.stage t (after t)).writes
+  -- the record of step t
+  abbrev of_step : ℕ → List Float
+  of_step t = record_of g (k.state (at (suc t)))
+
+  written : (t : ℕ) → m.items (at t) ≡ cond (recorded N t) (of_step t ∷ []) []
+  written t = rw (on t, counted t, steps t)
 
   abbrev course : Course m
   course =
@@ -43,22 +48,20 @@ module _ {m : Stepper Float} {g : DcSwitchingSimulator} {Vars : Type 0} (k : Kin
         wants = recorded N;
         uses = λ t. cond (recorded N t) 1 0;
         not_refused = taken;
-        sized = λ t l. k.sizes t (after t);
+        sized = λ t l. ap record_length (on t);
         some_size = omega arith;
-        ends = λ t l. (k.stage t (after t)).ends;
-        wants_room_lem = λ t l. (k.stage t (after t)).wants_room_lem;
-        writes = λ t l. rw (written t) (count_one (recorded N t) (record_of g (k.state (after (suc t)))));
-        whole_items = λ t l.
-            rw (written t, joined-one (recorded N t) (record_of g (k.state (after (suc t)))))
-            (length-one (recorded N t) (record_of g (k.state (after (suc t)))) (record_length g) (record_long g (k.state (after (suc t)))));
+        ends = λ t l. rw (on t, counted t);
+        wants_room_lem = λ t l. rw (on t, counted t);
+        writes = λ t l. rw (written t, count_one (recorded N t) (of_step t));
+        whole_items = λ t l. rw (written t, joined-one (recorded N t) (of_step t)) (length-one (recorded N t) (of_step t) (record_length g) (record_long g (k.state (at (suc t)))));
         only_with_room = λ t l. omega arith;
-        moves = λ t l. sym (k.next_is t (after t)) ∙ ap (k.run (suc t)) (sym (steps t));
+        moves = λ t l. sym (steps t);
       }
 
   -- as a run of 000's
   module _ (figures : m.Kept → DcTransientResult) (results : DcTransientResult) (finally : figures (at N) ≡ results) where
     abbrev pub whole : Run
-    whole = record { stepper = m; grid = g; after = at; state_at = λ j. k.state (after (suc j)); figures = figures; results = results }
+    whole = record { stepper = m; grid = g; after = at; state_at = λ j. k.state (at (suc j)); figures = figures; results = results }
 
     states_are : (t : ℕ) → items_before course t ≡ states_after whole t
     unfolding items_before states_after

@@ -1,13 +1,12 @@
--- One turn of an advance's loop, of any run: which tests it makes, what it writes. Assumes nothing.
-use Prim.Native.Nat.{ℕ, suc, ◌+◌, ◌*◌, ◌/◌, ◌≤◌, ◌<◌}
-use native.Mathlib.Nat.{mul-one, mul-zero, mul-le-mul_left, mul-div-le, div-le_self}
-use native.Mathlib.Numerals.{add-one}
+-- The loop of an advance, of any kind of run: which tests a turn makes, what it writes. Assumes nothing.
+use Prim.Native.Nat.{ℕ, ◌+◌, ◌*◌, ◌/◌, ◌≤◌, ◌<◌}
+use native.Mathlib.Nat.{mul-one, mul-zero, mul-le-mul_left, mul-div-le}
 use native.Mathlib.Omega.{arith}
 use mathlib.Core.Path.{◌≡◌, refl, sym, ap, ◌∙◌}
 use mathlib.Core.Bool.{Bool, true, false, cond, ◌&&◌, ◌||◌}
 use mathlib.Core.List.{List, [], ◌∷◌, append-nil}
 use lib.Dec.{eqb}
-use borrow.Author.Tests.{eqb-false}
+use borrow.Author.Tests.{eq-eqb, ne_eqb, eqb-false}
 use lib.ListN.{length, get_or, take, length-take, length-append}
 use lib.Seq.{sets}
 use lib.Ieee.{Float}
@@ -19,12 +18,15 @@ use Rattle.timing.specs.Steps.{steps_of, most_steps, counted_to, recorded, recor
 use Rattle.timing.specs.Claims.{Steps}
 use Rattle.timing.proofs.Claims.{step_claims}
 use Rattle.rule_claims.specs.Claims.{Sizes}
-use Rattle.portions.specs.Stopping.{Stepper, joined, reason_of}
+use Rattle.portions.specs.Stopping.{Stepper, joined, reason_of, memory_of}
+use Rattle.portions.specs.declared.Stop.{Stop}
 use Rattle.state_derivatives.specs.declared.state.DcTransientState.{DcTransientState}
 use Rattle.records.specs.declared.record.RecordCounts.{RecordCounts}
-use Rattle.records.specs.Records.{closed_number, record_with, record_of, counts_of, numbers_in, Counted, puts}
+use Rattle.records.specs.Records.{closed_number, record_with, record_by, record_of, counts_of, numbers_in, Counted, puts}
 use Rattle.records.proofs.Fitting.{puts_is}
 use Rattle.portions.proofs.Loop.{Going, Came, going_start, came_reason, goes_on, going_on, room_fits}
+use Rattle.runs.specs.declared.stepping.Advanced.{Advanced}
+use Rattle.runs.specs.Kinds.{RunKind, Ready, run_stepper, advanced_run}
 
 -- a record, or none
 module _ (b : Bool) (r : List Float) where
@@ -49,47 +51,6 @@ module _ (b : Bool) (r : List Float) where
       go : (b : Bool) → length (cond b r []) ≡ size * cond b 1 0
       go true = h ∙ sym (mul-one size)
       go false = sym (mul-zero size)
-
--- what a kept run has: steps made of n, the next one recorded or not, and its record
-pub record Stage (m : Stepper Float) (s : m.Kept) (made n : ℕ) (r : List Float) : Type 0 where
-  pub ends : m.ended s ≡ eqb made n
-  pub wants_room_lem : m.wants_room s ≡ recorded n made
-  pub writes : m.items s ≡ cond (recorded n made) (r ∷ []) []
-
-module _ (m : Stepper Float) {s₀ : m.Kept} {allowance : ℕ} {lent₀ : List Float} {s : m.Kept} {lent : List Float} {steps out : ℕ} (g : Going m s₀ allowance lent₀ s lent steps out)
-    {made n : ℕ} {r : List Float} (e : Stage m s made n r) (b : Bool) (is_b : b ≡ recorded n made) (space : ℕ) (is-space : space ≡ length lent₀ / m.size s₀) where
-  -- whether no whole record fits, as the rule has it
-  full : (b && eqb out space) ≡ (m.wants_room s && eqb out (length lent₀ / m.size s₀))
-  full = rw (is_b, e.wants_room_lem, is-space)
-
-  pub stops : (eqb made n || eqb steps allowance || (b && eqb out space)) ≡ true → Came m s₀ allowance lent₀ steps out (reason_of (eqb made n) (eqb steps allowance)) s lent
-  stops h = came_reason m g (eqb made n) (eqb steps allowance) (b && eqb out space) (sym e.ends) refl full h
-
-  module _ (h : (eqb made n || eqb steps allowance || (b && eqb out space)) ≡ false) where
-    on : (m.ended s ≡ false) × (steps < allowance) × (m.wants_room s ≡ true → out < length lent₀ / m.size s₀)
-    on = goes_on m g (eqb made n) (eqb steps allowance) (b && eqb out space) (sym e.ends) refl full h
-
-    pub more_allowed : steps < allowance
-    more_allowed = on.1
-
-    pub not_ended : eqb made n ≡ false
-    not_ended = sym e.ends ∙ on.0
-
-    pub record_fits : (size : ℕ) → size ≡ m.size s₀ → b ≡ true → size * out + size ≤ length lent
-    record_fits size is-size t = rw is-size (room_fits m g (on.2 (e.wants_room_lem ∙ sym is_b ∙ t)))
-
-    pub turn : (size : ℕ) → size ≡ m.size s₀ → length r ≡ size → (w : ℕ) → w ≡ cond b 1 0 → (s' : m.Kept) → s' ≡ m.next s
-        → (lent' : List Float) → lent' ≡ sets lent (size * out) (cond b r []) → Going m s₀ allowance lent₀ s' lent' (steps + 1) (out + w)
-    turn size is-size long w is-w s' is-s lent' is-lent =
-        let c = recorded n made in
-        let one : w ≡ cond c 1 0 = is-w ∙ ap (λ (x : Bool). cond x 1 0) is_b in
-        going_on m g on.0 on.1 on.2 w (rw (e.writes, one) (count_one c r)) (rw (e.wants_room_lem, one) (omega arith)) (rw (e.writes, joined-one c r, one) (length-one c r (m.size s₀) (long ∙ is-size))) s' is-s lent'
-        (is-lent ∙ rw (is-size, is_b, e.writes, joined-one c r))
-
--- where the next record would stand is in the memory
-pub position_fits : (m : Stepper Float) {s₀ : m.Kept} {allowance : ℕ} {lent₀ : List Float} {s : m.Kept} {lent : List Float} {steps out : ℕ} → Going m s₀ allowance lent₀ s lent steps out
-    → (size : ℕ) → size ≡ m.size s₀ → size * out ≤ length lent
-position_fits m {s₀ = s₀} {lent₀ = lent₀} g size e = rw e (omega (arith, mul-le-mul_left (m.size s₀) g.out_ok, mul-div-le (length lent₀) (m.size s₀), g.same_length))
 
 -- what an advance works out of an accepted grid before its loop: N, the numbers of a record, for how many there is space, and the counts
 pub record Sized (g : DcSwitchingSimulator) (lent₀ : List Float) (n size space : ℕ) (counts : RecordCounts) : Type 0 where
@@ -131,87 +92,105 @@ record_long g s =
     let b = length (breakers_of g) in
     simp (length-append, length-tab {A = Float} n (of s.y), length-tab {A = Float} n (of s.station_currents_ka), length-tab {A = Float} m (λ k. of s.y (n + k)), length-tab {A = Float} b (λ i. closed_number (get_or s.breaker_states i false))) (omega arith)
 
--- A kind of run on a grid: the run with some steps made and some variables, the body of its loop, and the state among its variables.
-pub record Kind (m : Stepper Float) (g : DcSwitchingSimulator) (Vars : Type 0) : Type 0 where
-  pub run : ℕ → Vars → m.Kept
-  pub body : ℕ → Vars → Vars
-  pub state : Vars → DcTransientState
-  pub sizes : (made : ℕ) (v : Vars) → m.size (run made v) ≡ record_length g
-  pub stage : (made : ℕ) (v : Vars) → Stage m (run made v) made (steps_of g) (record_of g (state (body made v)))
-  pub next_is : (made : ℕ) (v : Vars) → run (suc made) (body made v) ≡ m.next (run made v)
+or-true : (e f : Bool) → (e || true || f) ≡ true
+or-true true f = refl
+or-true false f = refl
 
-module _ {m : Stepper Float} {g : DcSwitchingSimulator} {Vars : Type 0} (k : Kind m g Vars) where
-  open k use {run, body, state}
+or-false : (e f : Bool) → (e || false || f) ≡ (e || f)
+or-false true f = refl
+or-false false f = refl
 
-  -- the invariant of an advance's loop; `step` is the body as the code has it, and v₀ and made₀ are those of the run that is advanced
-  pub record Inside (allowance : ℕ) (lent₀ : List Float) (n size space : ℕ) (counts : RecordCounts) (step : ℕ → Vars → Vars) (v₀ : Vars) (made₀ : ℕ) (lent : List Float) (v : Vars) (made steps out : ℕ) : Type 0 where
-    pub fixed : Sized g lent₀ n size space counts
-    pub step_is : (j : ℕ) (w : Vars) → step j w ≡ body j w
-    pub going : Going m (run made₀ v₀) allowance lent₀ (run made v) lent steps out
-    pub made_ok : made ≤ n
+module _ {K : Type 0} (k : RunKind K) where
+  abbrev m : Stepper Float
+  m = run_stepper k
 
-  -- a run that can be advanced: its grid is accepted, and it is not past its last step
-  pub record Ready (v₀ : Vars) (made₀ : ℕ) : Type 0 where
-    pub steps : Steps (steps_of g)
-    pub sizes : Sizes g
-    pub taken : m.refused (run made₀ v₀) ≡ false
-    pub not_past : made₀ ≤ steps_of g
+  -- the invariant of an advance's loop, of the run that is advanced and the run after some steps
+  pub record Inside (r₀ : K) (allowance : ℕ) (lent₀ : List Float) (n size space : ℕ) (counts : RecordCounts) (r : K) (lent : List Float) (steps out : ℕ) : Type 0 where
+    pub fixed : Sized (k.grid r₀) lent₀ n size space counts
+    pub same_grid : k.grid r ≡ k.grid r₀
+    pub going : Going m r₀ allowance lent₀ r lent steps out
+    pub made_ok : k.steps_made r ≤ n
 
   -- before the first turn
-  pub inside : (allowance : ℕ) (lent₀ : List Float) (n size : ℕ) (counts : RecordCounts) (step : ℕ → Vars → Vars) (v₀ : Vars) (made₀ : ℕ) → Ready v₀ made₀
-      → n ≡ counted_to (steps_of g) → size ≡ record_length g → counts ≡ counts_of g → ((j : ℕ) (w : Vars) → step j w ≡ body j w)
-      → Inside allowance lent₀ n size (length lent₀ / size) counts step v₀ made₀ lent₀ v₀ made₀ 0 0
-  inside allowance lent₀ n size counts step v₀ made₀ ready is-n is-size is-counts is-step =
-      let fixed = sized g lent₀ n size counts ready.steps ready.sizes is-n is-size is-counts in
-      record { fixed = fixed; step_is = is-step; going = going_start m (run made₀ v₀) allowance lent₀ ready.taken; made_ok = rw fixed.n_is ready.not_past }
+  pub inside : (r₀ : K) (allowance : ℕ) (lent₀ : List Float) (n size : ℕ) (counts : RecordCounts) → k.refused r₀ ≡ false → Ready (k.grid r₀) (k.steps_made r₀)
+      → n ≡ counted_to (steps_of (k.grid r₀)) → size ≡ record_length (k.grid r₀) → counts ≡ counts_of (k.grid r₀)
+      → Inside r₀ allowance lent₀ n size (length lent₀ / size) counts r₀ lent₀ 0 0
+  inside r₀ allowance lent₀ n size counts taken ready is-n is-size is-counts =
+      let fixed = sized (k.grid r₀) lent₀ n size counts ready.steps ready.sizes is-n is-size is-counts in
+      record { fixed = fixed; same_grid = refl; going = going_start m r₀ allowance lent₀ taken; made_ok = rw fixed.n_is ready.not_past }
 
-  module _ {allowance : ℕ} {lent₀ : List Float} {n size space : ℕ} {counts : RecordCounts} {step : ℕ → Vars → Vars} {v₀ : Vars} {made₀ : ℕ} {lent : List Float} {v : Vars} {made steps out : ℕ}
-      (i : Inside allowance lent₀ n size space counts step v₀ made₀ lent v made steps out) where
-    size_is : size ≡ m.size (run made₀ v₀)
-    size_is = i.fixed.size_is ∙ sym (k.sizes made₀ v₀)
-
-    space_is : space ≡ length lent₀ / m.size (run made₀ v₀)
-    space_is = rw (k.sizes made₀ v₀) i.fixed.space_is
+  module _ {r₀ : K} {allowance : ℕ} {lent₀ : List Float} {n size space : ℕ} {counts : RecordCounts} {r : K} {lent : List Float} {steps out : ℕ}
+      (i : Inside r₀ allowance lent₀ n size space counts r lent steps out) where
+    total : steps_of (k.grid r) ≡ n
+    total = ap steps_of i.same_grid ∙ sym i.fixed.n_is
 
     -- where the next record would stand is in the memory
-    pub position : size * out ≤ length lent₀
-    position = omega (arith, position_fits m i.going size size_is, i.going.same_length)
+    pub position : size * out ≤ length lent
+    position =
+        rw i.fixed.size_is (omega (arith, mul-le-mul_left (record_length (k.grid r₀)) i.going.out_ok, mul-div-le (length lent₀) (record_length (k.grid r₀)), i.going.same_length))
 
-    pub out_ok : out ≤ length lent₀
-    out_ok = omega (arith, i.going.out_ok, div-le_self (length lent₀) (m.size (run made₀ v₀)))
+    module _ (made : ℕ) (is-made : made ≡ k.steps_made r) where
+      ends : eqb made n ≡ m.ended r
+      ends = rw (is-made, total)
 
-    module _ (b : Bool) (is_b : b ≡ recorded n made) where
-      here : Stage m (run made v) made n (record_of g (state (body made v)))
-      here = rw i.fixed.n_is (k.stage made v)
+      -- the allowance is made
+      pub runs_out : allowance ≤ steps → Came m r₀ allowance lent₀ allowance out (reason_of (eqb made n) true) r lent
+      runs_out l =
+          let e : steps ≡ allowance = omega (arith, i.going.steps_ok) in
+          let c = came_reason m i.going (eqb made n) true _ ends (sym (eq-eqb steps allowance e)) refl (or-true (eqb made n) _) in
+          record { steps_is = sym e ∙ c.steps_is; count_is = c.count_is; stop_is = c.stop_is; kept_is = c.kept_is; left_is = c.left_is }
 
-      pub leaves : (eqb made n || eqb steps allowance || (b && eqb out space)) ≡ true → Came m (run made₀ v₀) allowance lent₀ steps out (reason_of (eqb made n) (eqb steps allowance)) (run made v) lent
-      leaves h = stops m i.going here b is_b space space_is h
+      module _ (b : Bool) (is_b : b ≡ recorded n made) (l : steps < allowance) where
+        wants : b ≡ m.wants_room r
+        wants = rw (is_b, is-made, total)
 
-      module _ (h : (eqb made n || eqb steps allowance || (b && eqb out space)) ≡ false) where
-        more_steps : made < n
-        more_steps = let e = eqb-false made n (not_ended m i.going here b is_b space space_is h) in omega (arith, i.made_ok)
+        -- whether no whole record fits, as the rule has it
+        full : (b && eqb out space) ≡ (m.wants_room r && eqb out (length lent₀ / m.size r₀))
+        full = rw (wants, i.fixed.space_is)
 
-        -- there is an allowance for the step, and it can be counted
-        pub counted_on_lem : (steps < allowance) × (made < most_steps)
-        counted_on_lem = (more_allowed m i.going here b is_b space space_is h, omega (arith, more_steps, i.fixed.few))
+        unspent : false ≡ eqb steps allowance
+        unspent = sym (ne_eqb steps allowance (λ e. omega arith))
 
-        fits : b ≡ true → size * out + numbers_in counts ≤ length lent
-        fits t = rw (i.fixed.counts_is, ← i.fixed.size_is) (record_fits m i.going here b is_b space space_is h size size_is t)
+        pub leaves : (eqb made n || (b && eqb out space)) ≡ true → Came m r₀ allowance lent₀ steps out (reason_of (eqb made n) false) r lent
+        leaves h = came_reason m i.going (eqb made n) false (b && eqb out space) ends unspent full (or-false (eqb made n) _ ∙ h)
 
-        -- the record has its space, so it is written exactly where it is asked for
-        written : puts b counts (size * out) (length lent) ≡ b
-        written = puts_is b counts (size * out) (length lent) i.fixed.counted fits
+        module _ (h : (eqb made n || (b && eqb out space)) ≡ false) where
+          on : (m.ended r ≡ false) × (steps < allowance) × (m.wants_room r ≡ true → out < length lent₀ / m.size r₀)
+          on = goes_on m i.going (eqb made n) false (b && eqb out space) ends unspent full (or-false (eqb made n) _ ∙ h)
 
-        pub goes : (v' : Vars) → v' ≡ step made v → (w : ℕ) → w ≡ cond (puts b counts (size * out) (length lent)) 1 0
-            → (lent' : List Float) → lent' ≡ sets lent (size * out) (cond (puts b counts (size * out) (length lent)) (record_with counts.stations counts.cables counts.breakers (state v')) [])
-            → Inside allowance lent₀ n size space counts step v₀ made₀ lent' v' (made + 1) (steps + 1) (out + w)
-        goes v' is-v w is-w lent' is-lent =
-            let e : v' ≡ body made v = is-v ∙ i.step_is made v in
-            record {
-              fixed = i.fixed;
-              step_is = i.step_is;
-              going =
-                  turn m i.going here b is_b space space_is h size size_is (record_long g (state (body made v)) ∙ sym i.fixed.size_is) w (is-w ∙ rw written) (run (made + 1) v') (rw (add-one, e) (k.next_is made v)) lent'
-                  (is-lent ∙ rw (written, i.fixed.counts_is, e));
-              made_ok = omega (arith, more_steps);
-            }
+          more_steps : k.steps_made r < n
+          more_steps = let e = eqb-false made n (ends ∙ on.0) in omega (arith, i.made_ok)
+
+          -- the step can be counted
+          pub few : k.steps_made r < most_steps
+          few = omega (arith, more_steps, i.fixed.few)
+
+          fits : b ≡ true → size * out + numbers_in counts ≤ length lent
+          fits t = rw (i.fixed.counts_is, i.fixed.size_is) (room_fits m i.going (on.2 (sym wants ∙ t)))
+
+          -- the record has its space, so it is written exactly where it is asked for
+          written : puts b counts (size * out) (length lent) ≡ b
+          written = puts_is b counts (size * out) (length lent) i.fixed.counted fits
+
+          pub goes : (r' : K) → r' ≡ k.next r → k.grid r' ≡ k.grid r → k.steps_made r' ≡ k.steps_made r + 1 → (state : DcTransientState) → state ≡ k.state r' → (w : ℕ) → w ≡ cond (puts b counts (size * out) (length lent)) 1 0
+              → (lent' : List Float) → lent' ≡ sets lent (size * out) (cond (puts b counts (size * out) (length lent)) (record_by counts state) [])
+              → Inside r₀ allowance lent₀ n size space counts r' lent' (steps + 1) (out + w)
+          goes r' is-r grid counted state is-state w is-w lent' is-lent =
+              let record₁ = record_of (k.grid r) (k.state (k.next r)) in
+              let one : w ≡ cond (m.wants_room r) 1 0 = is-w ∙ rw (written, wants) in
+              record {
+                fixed = i.fixed;
+                same_grid = grid ∙ i.same_grid;
+                going =
+                    going_on m i.going on.0 on.1 on.2 w (rw one (count_one (m.wants_room r) record₁)) (rw one (omega arith))
+                    (rw (joined-one (m.wants_room r) record₁, one) (length-one (m.wants_room r) record₁ (m.size r₀) (record_long (k.grid r) (k.state (k.next r)) ∙ ap record_length i.same_grid)))
+                    r' is-r lent'
+                    (is-lent ∙ rw (written, wants, joined-one (m.wants_room r) record₁, i.fixed.size_is, i.fixed.counts_is, is-state, is-r, ← i.same_grid));
+                made_ok = rw counted (omega (arith, more_steps));
+              }
+
+-- what the contract says of an answer
+pub returned : {K : Type 0} (k : RunKind K) {r₀ : K} {allowance : ℕ} {lent₀ : List Float} {steps out : ℕ} {stop : Stop} {r : K} {lent : List Float} → Came (run_stepper k) r₀ allowance lent₀ steps out stop r lent
+    → (◌≡◌ {A = Advanced K} (record { stop = stop; steps = steps; records = out; run = r }) (advanced_run k r₀ allowance lent₀)) × (lent ≡ memory_of (run_stepper k) r₀ allowance lent₀)
+unfolding advanced_run
+returned k c = (λ i. record { stop = c.stop_is i; steps = c.steps_is i; records = c.count_is i; run = c.kept_is i }, c.left_is)

@@ -8,12 +8,11 @@ use Rattle.timing.specs.Steps.{steps_of}
 use Rattle.rule_tests.specs.Rules.{too_many_parts}
 use Rattle.rules.specs.Studies.{switching_refusal, first, broken}
 use Rattle.portions.specs.Calls.{Chain}
-use Rattle.switching_plan.specs.Switching.{switching_body, switching_after}
+use Rattle.switching_plan.specs.Switching.{switching_after}
 use Rattle.runs.specs.Runs.{Calls, InPortions}
 use Rattle.runs.proofs.Portions.{in_portions}
-use Rattle.switching_runs.specs.SwitchingRuns.{switching_run_refused, switching_stepper, switching_run_after, started_switching_run, blank_switching_run, switching_results}
+use Rattle.switching_runs.specs.SwitchingRuns.{switching_run_refused, next_switching_run, switching_records, switching_kind, switching_stepper, switching_run_after, started_switching_run, blank_switching_run, switching_results}
 use Rattle.switching_run_claims.specs.Claims.{switching_run, SwitchingRunClaims}
-use Rattle.switching_runs.proofs.SwitchingLoop.{switching_kind}
 
 module _ (g : DcSwitchingSimulator) (number : ℕ) (opens : Bool) (z : switching_refusal g ≡ 0) where
   taken : (t : ℕ) → t ≤ steps_of g → switching_run_refused (switching_run_after g number opens t) ≡ false
@@ -24,13 +23,14 @@ module _ (g : DcSwitchingSimulator) (number : ℕ) (opens : Bool) (z : switching
   unfolding started_switching_run
   started = rw (eq-eqb (switching_refusal g) 0 z)
 
-  steps : (t : ℕ) → switching_after g number opens (suc t) ≡ switching_body g number opens t (switching_after g number opens t)
-  unfolding switching_after
+  steps : (t : ℕ) → switching_run_after g number opens (suc t) ≡ switching_kind.next (switching_run_after g number opens t)
+  unfolding switching_after next_switching_run
   steps t = refl
 
   whole : (cs : Calls (switching_run g number opens)) → Chain switching_stepper (started_switching_run g number opens) cs → InPortions (switching_run g number opens) cs
+  unfolding switching_records
   whole cs chain =
-      in_portions (switching_kind g number opens) (switching_after g number opens) steps taken (λ _. switching_results) switching_results refl cs (rw started at chain)
+      in_portions switching_kind g (switching_run_after g number opens) (λ t. refl) (λ t. refl) steps taken (λ _. switching_results) switching_results refl cs (rw started at chain)
 
 -- a grid of zeros has no station
 no_station_lem : switching_refusal blank_switching_run.grid ≡ 1

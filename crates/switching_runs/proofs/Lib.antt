@@ -1,5 +1,5 @@
--- The loop of a switching run's advance
-pub mod SwitchingLoop
+-- The steps of a switching run
+pub mod Steps
 -- Worked examples of the definitions
 mod Controls
 -- The contracts in src/ give the definitions, and ask nothing of a caller

@@ -1,15 +1,19 @@
 -- Switching runs in portions, document 01.8: "000 as it is, in portions like a fault run". Definitions only.
-use Rattle.std.specs.Prelude.{ℕ, suc, Bool, true, false, not, ◌||◌, cond, List, [], ◌∷◌, eqb, ltb, length, Float}
+use Rattle.std.specs.Prelude.{ℕ, suc, ◌≡◌, Bool, true, false, not, ◌||◌, cond, List, [], ◌∷◌, eqb, ltb, length, Float}
 use Rattle.float64.specs.Constants.{nought}
 use Rattle.grid.specs.declared.simulator.DcSwitchingSimulator.{DcSwitchingSimulator}
 use Rattle.timing.specs.Steps.{steps_of, recorded, record_length}
 use Rattle.rules.specs.Studies.{switching_refusal}
 use Rattle.portions.specs.Stopping.{Stepper, answer_of}
+use Rattle.switching_plan.specs.declared.plan.SwitchingPlan.{SwitchingPlan}
+use Rattle.switching_plan.specs.declared.variables.SwitchingVariables.{SwitchingVariables}
 use Rattle.switching_plan.specs.Switching.{switching_body, switching_after}
+use Rattle.switching_plan.specs.Plans.{switching_plan_step}
 use Rattle.switching_runs.specs.declared.switching_run.SwitchingRun.{SwitchingRun}
-use Rattle.switching_runs.specs.declared.switching_run.AdvancedSwitchingRun.{AdvancedSwitchingRun}
 use Rattle.records.specs.Records.{record_of}
 use Rattle.runs.specs.declared.result.DcTransientResult.{DcTransientResult}
+use Rattle.runs.specs.declared.stepping.Advanced.{Advanced}
+use Rattle.runs.specs.Kinds.{RunKind}
 use Rattle.runs.specs.Blank.{blank_grid, blank_state}
 
 -- ---- one step of a kept run
@@ -46,6 +50,15 @@ switching_stepper =
       next = next_switching_run;
     }
 
+-- what an advance reads of a switching run; its `run_stepper` is `switching_stepper`
+abbrev pub switching_kind : RunKind SwitchingRun
+switching_kind =
+    record { refused = switching_run_refused; grid = λ r. r.grid; steps_made = λ r. r.steps_made; state = λ r. r.variables.state; next = next_switching_run }
+
+-- steps by the plan are the run's own
+abbrev pub SwitchingPlanned : SwitchingRun → SwitchingPlan → Type 0
+SwitchingPlanned r p = (j : ℕ) (w : SwitchingVariables) → switching_plan_step p j w ≡ switching_body r.grid r.breaker_id r.«open» j w
+
 -- ---- what the functions return
 
 -- beside a refusal: all zero and false
@@ -62,7 +75,7 @@ unfoldable pub started_switching_run : DcSwitchingSimulator → ℕ → Bool →
 started_switching_run g number opens = cond (eqb (switching_refusal g) 0) (switching_run_after g number opens 0) blank_switching_run
 
 -- what `advance` returns; the lent memory after it is `memory_of switching_stepper`
-unfoldable pub advanced_switching_run : SwitchingRun → (allowance : ℕ) → List Float → AdvancedSwitchingRun
+unfoldable pub advanced_switching_run : SwitchingRun → (allowance : ℕ) → List Float → Advanced SwitchingRun
 advanced_switching_run r allowance lent =
     let x = answer_of switching_stepper r allowance lent in
     record { stop = x.stop; steps = x.steps; records = length x.items; run = x.kept }

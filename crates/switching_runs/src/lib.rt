@@ -3,6 +3,6 @@
 
 mod switching_run;
 
-pub use runs::DcTransientResult;
+pub use runs::{Advanced, DcTransientResult};
 pub use switching_plan::SwitchingVariables;
-pub use switching_run::{AdvancedSwitchingRun, SwitchingRun};
+pub use switching_run::SwitchingRun;

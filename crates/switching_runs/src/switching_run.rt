@@ -1,16 +1,15 @@
 // A switching run in portions: 000's simulate_switching.
 ghost use Rattle.std.specs.Prelude.{◌≡◌};
 ghost use Rattle.portions.specs.Stopping.{memory_of};
-ghost use Rattle.switching_runs.specs.SwitchingRuns.{switching_run_refused, switching_stepper, advanced_switching_run, switching_results};
+ghost use Rattle.switching_runs.specs.SwitchingRuns.{switching_kind, SwitchingPlanned, switching_stepper, advanced_switching_run, switching_results};
 
 use grid::DcSwitchingSimulator;
-use portions::{Stop, reason};
-use records::{put_if_recorded, record_counts};
 use rules::check_switching;
-use runs::DcTransientResult;
-use switching_plan::{SwitchingVariables, switching_plan};
+use runs::{Advanced, DcTransientResult, Run};
+use state_derivatives::DcTransientState;
+use switching_plan::{SwitchingPlan, SwitchingVariables, switching_plan};
 use switching_step::switching_step;
-use timing::{is_recorded, record_length, total_steps};
+use timing::total_steps;
 
 // A kept run: the grid, the operation by 000's two arguments, the steps made and 000's variables after the last of them.
 #[derive(Clone, Copy)]
@@ -22,73 +21,52 @@ pub struct SwitchingRun {
     pub variables: SwitchingVariables,
 }
 
-#[derive(Clone, Copy)]
-pub struct AdvancedSwitchingRun {
-    pub stop: Stop,
-    pub steps: u64,
-    pub records: u64,
-    pub run: SwitchingRun,
-}
+impl Run for SwitchingRun {
+    type Plan = SwitchingPlan;
 
-// Whether rule 11 refuses a kept run.
-fn switching_run_refused(run: SwitchingRun) -> bool
-    ensures { result ≡ switching_run_refused run }
-{
-    let g = run.grid;
-    if check_switching(g).is_err() {
-        return true;
+    ghost kind = { switching_kind };
+
+    ghost planned = { SwitchingPlanned };
+
+    fn is_refused(&self) -> bool {
+        if check_switching(self.grid).is_err() {
+            return true;
+        }
+        total_steps(self.grid) < self.steps_made
     }
-    total_steps(g) < run.steps_made
+
+    fn grid(&self) -> DcSwitchingSimulator {
+        self.grid
+    }
+
+    fn steps_made(&self) -> u64 {
+        self.steps_made
+    }
+
+    fn state(&self) -> DcTransientState {
+        let v = self.variables;
+        v.state
+    }
+
+    fn plan(&self) -> SwitchingPlan {
+        switching_plan(self.grid, self.breaker_id, self.open)
+    }
+
+    fn step(&mut self, plan: &mut SwitchingPlan) {
+        let made = self.steps_made;
+        self.variables = switching_step(*plan, made, self.variables);
+        self.steps_made = made.saturating_add(1);
+    }
 }
 
 impl SwitchingRun {
     // Makes at most `allowance` steps one by one, and writes the records of those that are recorded.
-    pub fn advance(self, allowance: u64, records: &mut [f64]) -> AdvancedSwitchingRun
+    #[tactic(auto, unfolding(crate::specs::SwitchingRuns::switching_records, crate::specs::SwitchingRuns::advanced_switching_run, runs::specs::Kinds::advanced_run))]
+    pub fn advance(self, allowance: u64, records: &mut [f64]) -> Advanced<SwitchingRun>
         ensures answer { result ≡ advanced_switching_run self allowance records.old }
         ensures memory { records.new ≡ memory_of switching_stepper self allowance records.old }
     {
-        if switching_run_refused(self) {
-            return AdvancedSwitchingRun {
-                stop: Stop::Refused,
-                steps: 0,
-                records: 0,
-                run: self,
-            };
-        }
-        let g = self.grid;
-        let n = total_steps(g);
-        let size = record_length(g);
-        let space = records.len() / size;
-        let counts = record_counts(g);
-        let plan = switching_plan(g, self.breaker_id, self.open);
-        let mut v = self.variables;
-        let mut made = self.steps_made;
-        let mut steps: u64 = 0;
-        let mut out: usize = 0;
-        loop {
-            let recorded = is_recorded(made, n);
-            let ended = made == n;
-            let spent = steps == allowance;
-            let full = recorded & (out == space);
-            if ended | spent | full {
-                return AdvancedSwitchingRun {
-                    stop: reason(ended, spent),
-                    steps,
-                    records: out as u64,
-                    run: SwitchingRun {
-                        grid: g,
-                        breaker_id: self.breaker_id,
-                        open: self.open,
-                        steps_made: made,
-                        variables: v,
-                    },
-                };
-            }
-            v = switching_step(plan, made, v);
-            out += put_if_recorded(recorded, records, size * out, v.state, counts);
-            made += 1;
-            steps += 1;
-        }
+        runs::advance(self, allowance, records)
     }
 
     // 000's results.

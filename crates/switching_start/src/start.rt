@@ -1,4 +1,4 @@
-// The start of a run: 000's simulate_switching.
+// The start of a run: 000's simulate_switching. It checks its own rules and makes its own struct, as simulate_fault does: one start for both would be a trait of these two.
 ghost use Rattle.std.specs.Prelude.{◌≡◌, IfOk};
 ghost use Rattle.rules.specs.Studies.{number_of, switching_refusal};
 ghost use Rattle.switching_runs.specs.SwitchingRuns.{started_switching_run};
