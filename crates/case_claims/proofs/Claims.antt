@@ -2,8 +2,8 @@
 use Prim.Native.Nat.{ℕ, zero, suc, ◌+◌, ◌≤◌, min}
 use native.Mathlib.Nat.{add-zero}
 use native.Mathlib.Omega.{arith}
-use mathlib.Core.Path.{◌≡◌, refl, sym, ap, ◌∙◌}
-use mathlib.Core.Bool.{Bool, true, false, not, ◌&&◌, ◌||◌}
+use mathlib.Core.Path.{◌≡◌, refl, ap}
+use mathlib.Core.Bool.{Bool, ◌&&◌, ◌||◌}
 use borrow.Author.Tests.{le-leb}
 use Rattle.grid.specs.declared.parts.DcFaultEvent.{DcFaultEvent}
 use Rattle.grid.specs.declared.simulator.DcSwitchingSimulator.{DcSwitchingSimulator}
@@ -11,13 +11,12 @@ use Rattle.state_derivatives.specs.declared.state.DcTransientState.{DcTransientS
 use Rattle.network.specs.Network.{network_of}
 use Rattle.detection.specs.Detection.{detected, detected_by}
 use Rattle.detection.proofs.Claims.{detection_claims}
-use Rattle.fault_plan.specs.declared.variables.FaultVariables.{FaultVariables}
 use Rattle.fault_plan.specs.Fault.{fault_body, fault_after}
 use Rattle.fault_plan.specs.Plans.{plan_of}
 use Rattle.fault_step_claims.proofs.Claims.{plan_claims}
-use Rattle.case_listing.specs.Listing.{state_at, counts, detected_in, some_detected, clearing_current, outcome_after}
+use Rattle.case_listing.specs.Listing.{counts, detected_in, some_detected, clearing_current, outcome_after}
 use Rattle.case_steps.specs.declared.open_case.OpenCase.{OpenCase}
-use Rattle.case_steps.specs.OpenCases.{start_case, outcome_in, counts_at, stepped, case_step, case_from}
+use Rattle.case_steps.specs.OpenCases.{start_case, outcome_in, counts_at, case_step, case_from}
 use Rattle.case_steps.specs.Plans.{plan_case_step, plan_case_from}
 use Rattle.case_claims.specs.Claims.{IsAfter, CaseClaims}
 
@@ -84,5 +83,5 @@ case_claims =
       by_plan = by_plan;
       from_start = after;
       outcome = outcome;
-      state_of_step_lem = λ g f n. ap (λ (v : FaultVariables). v.state) (after g f (suc n)).variables;
+      state_of_step_lem = λ g f n. rw (after g f (suc n)).variables;
     }

@@ -1,5 +1,5 @@
 -- What a reader expects beside the definitions: the steps by a plan are the grid's, and what is kept of a case is what 000's run of its fault has. The proofs are in proofs/Claims.antt.
-use Rattle.std.specs.Prelude.{ℕ, suc, ◌≤◌, ◌≡◌, true}
+use Rattle.std.specs.Prelude.{ℕ, suc, ◌≤◌, ◌≡◌}
 use Rattle.grid.specs.declared.parts.DcFaultEvent.{DcFaultEvent}
 use Rattle.grid.specs.declared.simulator.DcSwitchingSimulator.{DcSwitchingSimulator}
 use Rattle.fault_plan.specs.Fault.{fault_after}

@@ -5,7 +5,7 @@ ghost use Rattle.transient.specs.Rk4.{new_state};
 ghost use Rattle.case_steps.specs.Plans.{plan_case_from};
 
 use case_steps::OpenCase;
-use detection::shows_fault;
+use detection::{Seen, shows_fault};
 use fault_plan::FaultPlan;
 use network::{Drain, Network};
 use run_start::step_time_ms;
@@ -53,7 +53,15 @@ fn shows_before_clearing(plan: FaultPlan, first: u64, end: u64, start: OpenCase)
         y = moved.y;
         // The breakers clear the fault in this step.
         let clears = active & (k.breaker_clear_ms <= t_ms - inception_ms);
-        let shown = shows_fault(&rated, &y, &before, n, m, t_ms, time_ms);
+        let after = Seen {
+            time_ms: t_ms,
+            y: &y,
+        };
+        let earlier = Seen {
+            time_ms,
+            y: &before,
+        };
+        let shown = shows_fault(&rated, n, m, after, earlier);
         // Step 0 does not count.
         if (1 <= step) & shown {
             return true;

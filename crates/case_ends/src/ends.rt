@@ -21,6 +21,7 @@ pub struct SiteEnds {
 }
 
 // The outcome of a case of which `first` steps are made, and whose fault lasts through the steps of a window.
+#[tactic(auto, using(crate::proofs::Ways::cleared_end))]
 pub fn case_end(plan: FaultPlan, first: u64, window: Window, c: OpenCase) -> CaseOutcome
     ensures { result ≡ end_by plan first window c }
 {
@@ -74,7 +75,7 @@ fn outcome_from(window: Window, sums: Sums, before_ka: f64, detected: bool) -> C
     }
 }
 
-// The current of the last step where it clears the fault, and else the one from before.
+// The current of the last step where it clears the fault, and else the one from before. A function, so that the outcome has one path.
 fn clearing_current(clears: bool, last_ka: f64, before_ka: f64) -> f64
     ensures { result ≡ cond clears last_ka before_ka }
 {

@@ -5,4 +5,4 @@ mod reasons;
 mod row;
 
 pub use reasons::{CaseOutcome, Limit, reasons_for};
-pub use row::{ROW_LENGTH, put_row};
+pub use row::{CaseRow, ROW_LENGTH, put_row};

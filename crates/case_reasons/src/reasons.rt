@@ -1,9 +1,9 @@
 // Why a case is listed: the breakers do not clear it, cannot break its current, cannot absorb its energy, or nothing is detected.
-ghost use Rattle.std.specs.Prelude.{◌≡◌, cond, ◌&&◌, ◌≤◌};
+ghost use Rattle.std.specs.Prelude.{◌≡◌, cond, ◌&&◌, ◌≤◌, length};
 ghost use Rattle.lists.specs.Scans.{some};
 ghost use Rattle.case_reasons.specs.Reasons.{exceeds, at_end, limit_of, exceeded_by, cable_in, reasons_of};
 
-use grid::{DcBreaker, DcCable, DcSwitchingSimulator, MOST_BREAKERS, present};
+use grid::{DcBreaker, DcCable, DcSwitchingSimulator};
 
 // What the reasons and the row are read from, once all steps of a case are made. Cleared or not and detected or not are reasons themselves, and the
 // current of a case that is not cleared is 0 in its row: no Option holds it.
@@ -26,20 +26,19 @@ pub enum Limit {
 }
 
 // 01's reasons, added up; 0 where the breakers meet the case.
+#[tactic(auto, using(crate::proofs::Written::exceeded_present), unfolding(crate::specs::Reasons::reasons_of))]
 pub fn reasons_for(g: DcSwitchingSimulator, cable_number: u64, outcome: CaseOutcome) -> u64
     ensures { result ≡ reasons_of g cable_number outcome }
 {
     let cable = cable_at(g, cable_number);
-    let breakers = g.breakers;
-    let n = present(g.n_breakers, MOST_BREAKERS);
+    let breakers = g.present_breakers();
     let current = some_exceeded(
         breakers,
-        n,
         cable,
         Limit::BreakingCurrent,
         outcome.clearing_current_ka,
     );
-    let energy = some_exceeded(breakers, n, cable, Limit::Energy, outcome.energy_mj);
+    let energy = some_exceeded(breakers, cable, Limit::Energy, outcome.energy_mj);
     weight(!outcome.cleared, 1)
         + weight(outcome.cleared & current, 2)
         + weight(energy, 4)
@@ -72,18 +71,11 @@ fn cable_at(g: DcSwitchingSimulator, number: u64) -> DcCable
 }
 
 // Whether the value exceeds that limit of some breaker at an end of the cable.
-fn some_exceeded(
-    breakers: [DcBreaker; MOST_BREAKERS],
-    n: usize,
-    cable: DcCable,
-    limit: Limit,
-    value: f64,
-) -> bool
-    requires { n ≤ 32 }
-    ensures { result ≡ some n (exceeded_by breakers cable limit value) }
+fn some_exceeded(breakers: &[DcBreaker], cable: DcCable, limit: Limit, value: f64) -> bool
+    ensures { result ≡ some (length breakers.now) (exceeded_by breakers.now cable limit value) }
 {
-    for i in 0..n {
-        if is_exceeded(breakers[i], cable, limit, value) {
+    for b in breakers {
+        if is_exceeded(*b, cable, limit, value) {
             return true;
         }
     }

@@ -1,7 +1,6 @@
 // A case's row in lent memory.
-ghost use Rattle.std.specs.Prelude.{◌≡◌, cond, [], ◌+◌, ◌≤◌, length, get_or};
+ghost use Rattle.std.specs.Prelude.{◌≡◌, cond, [], length};
 ghost use Rattle.std.proofs.lemmas.List.Edits.{sets};
-ghost use Rattle.lists.specs.Tables.{tab};
 ghost use Rattle.case_reasons.specs.Reasons.{writes_row, numbers_of, current_shown};
 
 use crate::reasons::CaseOutcome;
@@ -11,21 +10,26 @@ use float64::to_bits;
 // The numbers of a row.
 pub const ROW_LENGTH: usize = 8;
 
+// What the row of a case says.
+#[derive(Clone, Copy)]
+pub struct CaseRow {
+    pub place: CasePlace,
+    // Added up; 0 where there is no row.
+    pub reasons: u64,
+    pub outcome: CaseOutcome,
+    // The flow's loss in the cable.
+    pub loss_mw: f64,
+}
+
 // Writes the row of a case that has reasons from a position on, where the whole of it fits, and says how many rows that were.
-pub fn put_row(
-    rows: &mut [u64],
-    at: usize,
-    place: CasePlace,
-    reasons: u64,
-    outcome: CaseOutcome,
-    loss_mw: f64,
-) -> usize
-    ensures answer { result ≡ cond (writes_row reasons at (length rows.old)) 1 0 }
-    ensures memory { rows.new ≡ sets rows.old at (cond (writes_row reasons at (length rows.old)) (numbers_of place reasons outcome loss_mw) []) }
+#[tactic(auto, using(crate::proofs::Written::row_put))]
+pub fn put_row(rows: &mut [u64], at: usize, row: CaseRow) -> usize
+    ensures answer { result ≡ cond (writes_row row.reasons at (length rows.old)) 1 0 }
+    ensures memory { rows.new ≡ sets rows.old at (cond (writes_row row.reasons at (length rows.old)) (numbers_of row.place row.reasons row.outcome row.loss_mw) []) }
 {
-    if writes_row(reasons, at, rows.len()) {
-        let row = row_numbers(place, reasons, outcome, loss_mw);
-        put_numbers(rows, at, &row);
+    if writes_row(row.reasons, at, rows.len()) {
+        let numbers = row_numbers(row);
+        rows[at..at + ROW_LENGTH].copy_from_slice(&numbers);
         return 1;
     }
     0
@@ -35,32 +39,24 @@ pub fn put_row(
 fn writes_row(reasons: u64, at: usize, len: usize) -> bool
     ensures { result ≡ writes_row reasons at len }
 {
-    if reasons == 0 {
-        return false;
-    }
-    if len < at {
-        return false;
-    }
-    ROW_LENGTH <= len - at
+    reasons != 0 && at <= len && ROW_LENGTH <= len - at
 }
 
 // The eight numbers of a row, doubles by their bits.
-fn row_numbers(place: CasePlace, reasons: u64, outcome: CaseOutcome, loss_mw: f64) -> [u64; 8]
-    ensures { result ≡ numbers_of place reasons outcome loss_mw }
+fn row_numbers(row: CaseRow) -> [u64; ROW_LENGTH]
+    ensures { result ≡ numbers_of row.place row.reasons row.outcome row.loss_mw }
 {
-    let peak = to_bits(outcome.peak_fault_ka);
-    let current = to_bits(current_shown(outcome));
-    let energy = to_bits(outcome.energy_mj);
-    let loss = to_bits(loss_mw);
+    let place = row.place;
+    let outcome = row.outcome;
     [
         place.cable,
         type_number(place.fault_type),
         place.tenth,
-        reasons,
-        peak,
-        current,
-        energy,
-        loss,
+        row.reasons,
+        to_bits(outcome.peak_fault_ka),
+        to_bits(current_shown(outcome)),
+        to_bits(outcome.energy_mj),
+        to_bits(row.loss_mw),
     ]
 }
 
@@ -72,13 +68,4 @@ fn current_shown(outcome: CaseOutcome) -> f64
         return outcome.clearing_current_ka;
     }
     0.0
-}
-
-fn put_numbers(rows: &mut [u64], at: usize, row: &[u64; 8])
-    requires { at + 8 ≤ length rows.old }
-    ensures { rows.new ≡ sets rows.old at (tab 8 (λ k. get_or row.now k 0)) }
-{
-    for i in 0..ROW_LENGTH {
-        rows[at + i] = row[i];
-    }
 }

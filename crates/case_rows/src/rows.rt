@@ -5,7 +5,7 @@ ghost use Rattle.portions.specs.Stopping.{joined};
 ghost use Rattle.portions.specs.Cases.{to_list};
 ghost use Rattle.case_rows.specs.Rows.{loss_in, room_behind, row_in};
 
-use case_reasons::{CaseOutcome, ROW_LENGTH, put_row, reasons_for};
+use case_reasons::{CaseOutcome, CaseRow, ROW_LENGTH, put_row, reasons_for};
 use fault_cases::case_place;
 use grid::{DcSwitchingSimulator, SweepOrder};
 use power_flow::DcGridSolution;
@@ -29,15 +29,13 @@ impl Swept {
             return 0;
         }
         let place = case_place(self.order, k);
-        let reasons = reasons_for(self.grid, place.cable, outcome);
-        put_row(
-            rows,
-            ROW_LENGTH * out,
+        let row = CaseRow {
             place,
-            reasons,
+            reasons: reasons_for(self.grid, place.cable, outcome),
             outcome,
-            loss_of(self.flow, place.cable),
-        )
+            loss_mw: loss_of(self.flow, place.cable),
+        };
+        put_row(rows, ROW_LENGTH * out, row)
     }
 }
 

@@ -1,3 +1,5 @@
+-- The steps that are left of some.
+mod Left
 -- Which steps reason 8 counts, as the code tests it.
 mod Counted
 -- Worked examples of the definitions.

@@ -9,6 +9,7 @@ use fault_plan::{FaultPlan, FaultVariables};
 use fault_step::fault_step;
 
 // The case after the steps from the number `first` up to `end`, which is not made.
+#[tactic(auto, using(crate::proofs::Left::one_more, crate::proofs::Left::none_left))]
 pub fn case_steps(plan: FaultPlan, first: u64, end: u64, start: OpenCase) -> OpenCase
     ensures { result ≡ plan_case_from plan first start (end - first) }
 {
@@ -23,6 +24,7 @@ pub fn case_steps(plan: FaultPlan, first: u64, end: u64, start: OpenCase) -> Ope
 }
 
 // The same of a case in which a step is detected: none is looked at any more, and the variables alone are carried along.
+#[tactic(auto, using(crate::proofs::Left::one_more, crate::proofs::Left::none_left))]
 fn detected_steps(plan: FaultPlan, first: u64, end: u64, start: OpenCase) -> OpenCase
     requires { start.detected ≡ true }
     ensures { result ≡ plan_case_from plan first start (end - first) }
@@ -56,6 +58,7 @@ fn clearing_current(cleared_before: bool, after: FaultVariables, before_ka: f64)
 }
 
 // The case after one step.
+#[tactic(auto, unfolding(crate::specs::Plans::plan_case_step))]
 fn case_step(plan: FaultPlan, step: u64, c: OpenCase) -> OpenCase
     ensures { result ≡ plan_case_step plan step c }
 {

@@ -1,8 +1,8 @@
 -- What a call takes for a case that it closes is what all steps of the case lead to. Assumes nothing.
-use Prim.Native.Nat.{ℕ, ◌-◌, ◌≤◌}
+use Prim.Native.Nat.{ℕ, ◌-◌}
 use native.Mathlib.Omega.{arith}
 use mathlib.Core.Path.{◌≡◌, refl, sym, ap, ◌∙◌}
-use mathlib.Core.Bool.{Bool, true, false, not, ◌&&◌, cond}
+use mathlib.Core.Bool.{Bool, true, false, not, ◌&&◌}
 use lib.Dec.{eqb, leb}
 use lib.ListN.{get_or}
 use borrow.Author.Tests.{eqb-true, leb-true, lt-ltb}
@@ -29,7 +29,6 @@ use Rattle.fault_plan.specs.Fault.{before_loop}
 use Rattle.fault_plan.specs.Plans.{constants_of, plan_of}
 use Rattle.fault_cases.specs.declared.cases.CasePlace.{CasePlace}
 use Rattle.fault_cases.specs.Cases.{place_of, fault_in, fault_of}
-use Rattle.case_reasons.specs.declared.reasons.CaseOutcome.{CaseOutcome}
 use Rattle.case_steps.specs.declared.open_case.OpenCase.{OpenCase}
 use Rattle.case_steps.specs.OpenCases.{start_case, outcome_in, case_from}
 use Rattle.case_steps.specs.Plans.{plan_case_from}
@@ -43,55 +42,6 @@ use Rattle.closed_cases.specs.declared.cable.CableEnds.{CableEnds}
 use Rattle.closed_cases.specs.Cables.{window_in, end_for, blank_site, tried, site_at, cable_of, in_site, whole_cable, held_for, closed_by}
 
 -- ---- for the code
-
--- a tenth that is tried is one up to the tenth
-pub few_tried : (a b : Bool) (o : SweepOrder) (tenth : ℕ) → b ≡ tried o tenth → (a && b) ≡ true → tenth ≤ 10
-few_tried a b o tenth e h = leb-true tenth 10 (right (leb o.low_tenth tenth && leb tenth o.high_tenth) (leb tenth 10) (sym e ∙ right a b h))
-
--- what a call takes of a case at a place
-module _ (x : Common) (ends : CableEnds) (fresh : Bool) (k made : ℕ) (c : OpenCase) where
-  abbrev looked_up : CasePlace → CaseOutcome
-  looked_up place = in_site (get_or ends.sites place.tenth blank_site) place.fault_type
-
-  abbrev closed_at : CasePlace → CaseOutcome
-  closed_at place = cond (fresh && eqb ends.cable place.cable && tried x.order place.tenth) (looked_up place) (end_for x place made c)
-
-  is_at : closed_by x (Some ends) fresh k made c ≡ closed_at (place_of x.order k)
-  unfolding closed_by
-  is_at = refl
-
-  module _ (place : CasePlace) (is-place : place ≡ place_of x.order k) (t : Bool) (is-t : t ≡ tried x.order place.tenth) (r : CaseOutcome) where
-    by : (b : Bool) → (fresh && eqb ends.cable place.cable && t) ≡ b → cond b (looked_up place) (end_for x place made c) ≡ closed_by x (Some ends) fresh k made c
-    by b h =
-        ap (λ (z : Bool). cond z (looked_up place) (end_for x place made c)) (sym h ∙ ap (λ (z : Bool). fresh && eqb ends.cable place.cable && z) is-t)
-        ∙ ap closed_at is-place
-        ∙ sym is_at
-
-    pub takes_held : (fresh && eqb ends.cable place.cable && t) ≡ true → r ≡ looked_up place → r ≡ closed_by x (Some ends) fresh k made c
-    takes_held h e = e ∙ by true h
-
-    pub takes_own : (fresh && eqb ends.cable place.cable && t) ≡ false → r ≡ end_for x place made c → r ≡ closed_by x (Some ends) fresh k made c
-    takes_own h e = e ∙ by false h
-
--- and where no cable is held
-module _ (x : Common) (fresh : Bool) (k made : ℕ) (c : OpenCase) where
-  pub takes_own_alone : (place : CasePlace) → place ≡ place_of x.order k → (r : CaseOutcome) → r ≡ end_for x place made c → r ≡ closed_by x None fresh k made c
-  unfolding closed_by
-  takes_own_alone place is-place r e = e ∙ ap (λ (q : CasePlace). end_for x q made c) is-place
-
--- what it holds
-module _ (x : Common) (before : Option CableEnds) (k allowed room : ℕ) (place : CasePlace) (is-place : place ≡ place_of x.order k) (t : Bool) (is-t : t ≡ whole_cable x.order place x.n_steps allowed room) where
-  abbrev held_at : CasePlace → Option CableEnds
-  held_at q = cond (whole_cable x.order q x.n_steps allowed room) (Some (cable_of x q.cable)) before
-
-  held_by : (b : Bool) → t ≡ b → cond b (Some (cable_of x place.cable)) before ≡ held_for x before k allowed room
-  held_by b h = ap (λ (z : Bool). cond z (Some (cable_of x place.cable)) before) (sym h ∙ is-t) ∙ ap held_at is-place
-
-  pub holds : t ≡ true → (r : CableEnds) → r ≡ cable_of x place.cable → Some r ≡ held_for x before k allowed room
-  holds h r e = ap Some e ∙ held_by true h
-
-  pub holds_on : t ≡ false → before ≡ held_for x before k allowed room
-  holds_on h = held_by false h
 
 abbrev pub cable_with : (cable : ℕ) → List SiteEnds → CableEnds
 cable_with cable sites = record { cable = cable; sites = sites }

@@ -54,7 +54,7 @@ fn closes_cable(
     is_first & (n_steps <= allowed / cases) & (cases <= room as u64)
 }
 
-// What a call holds at first: no cable.
+// What a call holds at first: no cable. A function, whose contract has the definition's name for it.
 pub fn no_cable_ends() -> Option<CableEnds>
     ensures { result ≡ no_cable }
 {
@@ -62,6 +62,7 @@ pub fn no_cable_ends() -> Option<CableEnds>
 }
 
 // The outcomes of all cases of a cable, from their first step to their end.
+#[tactic(auto, using(lists::proofs::Fills::upto_none, lists::proofs::Fills::upto_more), unfolding(lists::specs::Tables::blank))]
 fn cable_ends(common: Common, cable: u64) -> CableEnds
     ensures { result ≡ cable_of common cable }
 {
@@ -73,6 +74,7 @@ fn cable_ends(common: Common, cable: u64) -> CableEnds
 }
 
 // The outcomes at a tenth; all zero and false where the order does not try it.
+#[tactic(auto, unfolding(crate::specs::Cables::site_at))]
 fn site_at(common: Common, cable: u64, tenth: u64) -> SiteEnds
     ensures { result ≡ site_at common cable tenth }
 {

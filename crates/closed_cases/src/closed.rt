@@ -8,32 +8,37 @@ use case_reasons::CaseOutcome;
 use case_steps::OpenCase;
 use fault_cases::{CasePlace, case_place};
 use fault_plan::FaultConstants;
-use fault_window::{Window, fault_window};
+use fault_window::{FaultTimes, Window, fault_window};
 use grid::DcFaultType;
 use sweep_cases::{Common, plan_at};
 
-// The outcome of case k, of which `made` steps are made and `c` is kept. A case that is fresh, none of whose steps is made, is looked up where its
-// cable is held.
-pub fn closed_outcome(
-    common: Common,
-    ends: Option<CableEnds>,
-    fresh: bool,
-    k: u64,
-    made: u64,
-    c: OpenCase,
-) -> CaseOutcome
-    ensures { result ≡ closed_by common ends fresh k made c }
+// A case as the call has it that closes it.
+#[derive(Clone, Copy)]
+pub struct CaseToClose {
+    pub number: u64,
+    // Steps made of it.
+    pub made: u64,
+    // After these steps.
+    pub kept: OpenCase,
+    // Opened by the same call, so that none of its steps is made. `made` does not tell: what was kept before the call may be any variables.
+    pub fresh: bool,
+}
+
+// The outcome of a case. One that is fresh is looked up where its cable is held.
+#[tactic(auto, unfolding(crate::specs::Cables::closed_by))]
+pub fn closed_outcome(common: Common, ends: Option<CableEnds>, case: CaseToClose) -> CaseOutcome
+    ensures { result ≡ closed_by common ends case.fresh case.number case.made case.kept }
 {
     let order = common.order;
-    let place = case_place(order, k);
+    let place = case_place(order, case.number);
     if let Some(held) = ends {
-        if fresh & (held.cable == place.cable) & is_tried(order, place.tenth) {
+        if case.fresh & (held.cable == place.cable) & is_tried(order, place.tenth) {
             let sites = held.sites;
             let tenth = place.tenth as usize;
             return in_site(sites[tenth], place.fault_type);
         }
     }
-    end_for(common, place, made, c)
+    end_for(common, place, case.made, case.kept)
 }
 
 // The outcome of a type of fault at a place: a field for each, which no conversion says.
@@ -68,12 +73,10 @@ fn window_in(whole: Window, k: FaultConstants, n_steps: u64, made: u64, active: 
         return whole;
     }
     let circuit = k.circuit;
-    fault_window(
-        k.dt_ms,
-        circuit.inception_time_ms,
-        k.breaker_clear_ms,
-        active,
-        made,
-        n_steps,
-    )
+    let times = FaultTimes {
+        dt_ms: k.dt_ms,
+        inception_ms: circuit.inception_time_ms,
+        clear_ms: k.breaker_clear_ms,
+    };
+    fault_window(times, active, made, n_steps)
 }

@@ -5,4 +5,4 @@ mod cable;
 mod closed;
 
 pub use cable::{CableEnds, ends_held, no_cable_ends};
-pub use closed::closed_outcome;
+pub use closed::{CaseToClose, closed_outcome};

@@ -8,6 +8,8 @@ use Rattle.fault_cases.specs.contracts.cases.case_place as case-place-contract
 use Rattle.fault_cases.proofs.cases.case_place.Reads as case-place-reads
 use Rattle.fault_cases.specs.contracts.cases.fault_at as fault-at-contract
 use Rattle.fault_cases.proofs.cases.fault_at.Reads as fault-at-reads
+use Rattle.fault_cases.specs.contracts.cases.fault_type as fault-type-contract
+use Rattle.fault_cases.proofs.cases.fault_type.Reads as fault-type-reads
 use Rattle.fault_cases.specs.contracts.cases.tenth_count as tenth-count-contract
 use Rattle.fault_cases.proofs.cases.tenth_count.Reads as tenth-count-reads
 use Rattle.fault_cases.specs.contracts.cases.type_number as type-number-contract
@@ -22,6 +24,9 @@ module _ (κs : Lfts 0) where
 
   pub fault_at_any : (a : ArgsD fault-at-contract.signature κs) → fault-at-reads.Asked κs a
   fault_at_any a = tt
+
+  pub fault_type_any : (a : ArgsD fault-type-contract.signature κs) → fault-type-reads.Asked κs a
+  fault_type_any a = tt
 
   pub tenth_count_any : (a : ArgsD tenth-count-contract.signature κs) → tenth-count-reads.Asked κs a
   tenth_count_any a = tt

@@ -1,8 +1,8 @@
 // The cases of a sweep, by number: cable ascending, then fault type, then tenth of the cable ascending.
-ghost use Rattle.std.specs.Prelude.{◌≡◌};
-ghost use Rattle.fault_cases.specs.Cases.{tenths_of, cases_of, place_of, fault_type, type_number, fault_in};
+ghost use Rattle.std.specs.Prelude.{◌≡◌, cond, nat_lt, Some, None};
+ghost use Rattle.fault_cases.specs.Cases.{types, tenths_of, cases_of, place_of, fault_type, type_number, fault_in};
 
-use grid::{DcFaultEvent, DcFaultType, DcSwitchingSimulator, MOST_CABLES, SweepOrder, present};
+use grid::{DcFaultEvent, DcFaultType, DcSwitchingSimulator, SweepOrder};
 use std::num::nearest_u64_to_f64;
 
 // Pole to ground, pole to pole, internal.
@@ -24,10 +24,7 @@ pub struct CasePlace {
 pub fn tenth_count(o: SweepOrder) -> u64
     ensures { result ≡ tenths_of o }
 {
-    if o.high_tenth < o.low_tenth {
-        return 1;
-    }
-    if MOST_TENTHS < o.high_tenth {
+    if o.high_tenth < o.low_tenth || MOST_TENTHS < o.high_tenth {
         return 1;
     }
     o.high_tenth - o.low_tenth + 1
@@ -37,7 +34,7 @@ pub fn tenth_count(o: SweepOrder) -> u64
 pub fn case_count(g: DcSwitchingSimulator, o: SweepOrder) -> u64
     ensures { result ≡ cases_of g o }
 {
-    let cables = present(g.n_cables, MOST_CABLES) as u64;
+    let cables = g.present_cables().len() as u64;
     cables * (FAULT_TYPES * tenth_count(o))
 }
 
@@ -50,12 +47,13 @@ pub fn case_place(o: SweepOrder, number: u64) -> CasePlace
     let tenth = o.low_tenth + number % tenths;
     CasePlace {
         cable: number / (FAULT_TYPES * tenths),
-        fault_type: type_of(of_type),
+        fault_type: fault_type(of_type).unwrap(),
         tenth,
     }
 }
 
 // The fault at a place, with the resistance and the inception of the order.
+#[tactic(auto, unfolding(crate::specs::Cases::fault_in))]
 pub fn fault_at(o: SweepOrder, place: CasePlace) -> DcFaultEvent
     ensures { result ≡ fault_in o place }
 {
@@ -80,13 +78,14 @@ pub fn type_number(fault_type: DcFaultType) -> u64
     }
 }
 
-// The type of a number; internal for every number past the last, so that no number fails to convert.
-fn type_of(number: u64) -> DcFaultType
-    ensures { result ≡ fault_type number }
+// The type of a number; None where there is no such type.
+pub fn fault_type(number: u64) -> Option<DcFaultType>
+    ensures { result ≡ cond (nat_lt number types) (Some (fault_type number)) None }
 {
     match number {
-        0 => DcFaultType::PoleToGround,
-        1 => DcFaultType::PoleToPole,
-        _ => DcFaultType::ConverterInternal,
+        0 => Some(DcFaultType::PoleToGround),
+        1 => Some(DcFaultType::PoleToPole),
+        2 => Some(DcFaultType::ConverterInternal),
+        _ => None,
     }
 }

@@ -4,5 +4,6 @@
 mod cases;
 
 pub use cases::{
-    CasePlace, FAULT_TYPES, MOST_TENTHS, case_count, case_place, fault_at, tenth_count, type_number,
+    CasePlace, FAULT_TYPES, MOST_TENTHS, case_count, case_place, fault_at, fault_type, tenth_count,
+    type_number,
 };

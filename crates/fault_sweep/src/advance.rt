@@ -6,7 +6,7 @@ ghost use Rattle.fault_sweep.specs.Advance.{sweep_broken, sweep_stepper, advance
 use crate::sweep::{AdvancedSweep, Sweep};
 use case_reasons::ROW_LENGTH;
 use case_rows::Swept;
-use closed_cases::{closed_outcome, ends_held, no_cable_ends};
+use closed_cases::{CaseToClose, closed_outcome, ends_held, no_cable_ends};
 use fault_cases::case_count;
 use portions::{Stop, reason};
 use rules::check_sweep;
@@ -54,7 +54,13 @@ impl Sweep {
             // Known before its steps are made: the call closes the case, or leaves it open.
             if (left <= allowed) & (out < space) {
                 ends = ends_held(common, ends, k, allowed, space - out);
-                let outcome = closed_outcome(common, ends, fresh, k, made, c);
+                let case = CaseToClose {
+                    number: k,
+                    made,
+                    kept: c,
+                    fresh,
+                };
+                let outcome = closed_outcome(common, ends, case);
                 out += swept.put_case(rows, out, k, outcome);
                 steps += left;
                 made = 0;

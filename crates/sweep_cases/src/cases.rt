@@ -8,7 +8,7 @@ use breaker_times::fastest_breaker_clearing_ms;
 use case_steps::{OpenCase, case_steps, first_open_case, no_open_case};
 use fault_cases::{CasePlace, case_place, fault_at};
 use fault_plan::{FaultPlan, fault_constants};
-use fault_window::{Window, fault_window};
+use fault_window::{FaultTimes, Window, fault_window};
 use grid::{DcSwitchingSimulator, SweepOrder};
 use network::{Network, network_of};
 use run_start::rated_voltages;
@@ -28,6 +28,7 @@ pub struct Common {
 }
 
 // What the cases of any grid and order have in common, for a call that closes cases or does not.
+#[tactic(auto, unfolding(crate::specs::Plans::common_of))]
 pub fn common_of(g: DcSwitchingSimulator, order: SweepOrder, closes: bool) -> Common
     ensures { result ≡ common_of g order closes }
 {
@@ -46,18 +47,17 @@ pub fn common_of(g: DcSwitchingSimulator, order: SweepOrder, closes: bool) -> Co
 }
 
 // The steps in which the fault of a case lasts. They are looked for only where a call closes cases: one of a few steps is not to look through all steps of a case.
+#[tactic(auto, unfolding(crate::specs::Plans::window_for))]
 fn window_of(g: DcSwitchingSimulator, order: SweepOrder, n_steps: u64, closes: bool) -> Window
     ensures { result ≡ window_for g order n_steps closes }
 {
     if closes {
-        return fault_window(
-            time_step_ms(g),
-            order.inception_time_ms,
-            fastest_breaker_clearing_ms(g),
-            false,
-            0,
-            n_steps,
-        );
+        let times = FaultTimes {
+            dt_ms: time_step_ms(g),
+            inception_ms: order.inception_time_ms,
+            clear_ms: fastest_breaker_clearing_ms(g),
+        };
+        return fault_window(times, false, 0, n_steps);
     }
     Window {
         from: 0,
@@ -70,13 +70,7 @@ fn window_of(g: DcSwitchingSimulator, order: SweepOrder, n_steps: u64, closes: b
 pub fn steps_left_open(left: u64, allowed: u64) -> u64
     ensures { result ≡ min allowed (left - 1) }
 {
-    if allowed < left {
-        return allowed;
-    }
-    if left == 0 {
-        return 0;
-    }
-    left - 1
+    allowed.min(left.saturating_sub(1))
 }
 
 // Case k after the steps from the number `first` up to `end`, which is not made. The circuit and the drain are worked out once.

@@ -11,9 +11,3 @@ returns-then-start c =
 pub returns-then-v : goal.returns-then-v
 returns-then-v c =
     sym (from_looks c.args.plan (c.args.end - c.args.first) c.args.first c.args.start ∙ cleared_stays c.args.plan (c.args.end - c.args.first) c.args.first (look c.args.start) c.if-v.true ∙ c.if-start.false)
-
-pub shows_before_clearing-requires : goal.shows_before_clearing-requires
-shows_before_clearing-requires c = (c.if-start.false, c.if-v.false)
-
-pub returns : goal.returns
-returns c = c.shows_before_clearing.ensures

@@ -2,11 +2,8 @@
 use Rattle.case_detection.proofs.Looks.{look_from, from_open, turned, found, gone, next}
 use Prim.Native.Nat.{◌-◌}
 use native.Mathlib.Omega.{arith}
-use mathlib.Core.Path.{◌≡◌, refl, sym, ◌∙◌}
+use mathlib.Core.Path.{◌≡◌, sym, ◌∙◌}
 use Rattle.case_detection.proofs.detecting.shows_before_clearing.Goals as goal
-
-pub loop-step-init : goal.loop-step-init
-loop-step-init c = refl
 
 pub returns-then-step-shown : goal.returns-then-step-shown
 returns-then-step-shown c =

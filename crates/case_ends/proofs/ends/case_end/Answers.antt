@@ -1,10 +1,6 @@
 -- `case_end` meets its contract. Assumes nothing.
-use mathlib.Core.Path.{sym, ◌∙◌}
-use Rattle.case_ends.proofs.Ways.{cleared_end, lasting_way}
+use Rattle.case_ends.proofs.Ways.{lasting_way}
 use Rattle.case_ends.proofs.ends.case_end.Goals as goal
-
-pub returns-then-v : goal.returns-then-v
-returns-then-v c = c.case_outcome.ensures ∙ sym (cleared_end c.args.plan c.args.first c.args.window c.args.c c.if-v.true)
 
 pub returns : goal.returns
 returns c =

@@ -4,5 +4,5 @@ use Rattle.lists.specs.Scans.{some}
 use Rattle.case_reasons.specs.Reasons.{exceeded_by}
 use Rattle.case_reasons.proofs.reasons.some_exceeded.Given as goal
 
-abbrev pub invariant-loop-i : goal.invariant-loop-i
-invariant-loop-i l = some l.i (exceeded_by l.breakers l.cable l.limit l.value) ≡ false
+abbrev pub invariant-loop-b : goal.invariant-loop-b
+invariant-loop-b l = some l.b-index (exceeded_by l.breakers l.cable l.limit l.value) ≡ false

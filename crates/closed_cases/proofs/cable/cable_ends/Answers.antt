@@ -2,17 +2,10 @@
 use Rattle.std.proofs.Common.{ap, ◌∙◌}
 use Rattle.lists.specs.Tables.{blank}
 use Rattle.lists.proofs.Counting.{at_end_lem}
-use Rattle.lists.proofs.Fills.{upto, upto_none, upto_more}
+use Rattle.lists.proofs.Fills.{upto}
 use Rattle.closed_cases.specs.Cables.{blank_site, site_at}
 use Rattle.closed_cases.proofs.AllSteps.{cable_with, all_sites}
 use Rattle.closed_cases.proofs.cable.cable_ends.Goals as goal
-
-pub loop-tenth-init : goal.loop-tenth-init
-unfolding blank
-loop-tenth-init c = rw c.blank_site-sites.ensures (upto_none _ _)
-
-pub loop-tenth-preserved : goal.loop-tenth-preserved
-loop-tenth-preserved c = upto_more _ _ c.loop-tenth.tenth c.loop-tenth.invariant c.site_at.ensures
 
 pub returns : goal.returns
 returns c =

@@ -5,7 +5,7 @@ use Rattle.fault_sums.proofs.steps.fault_sums.Goals as goal
 
 pub loop-step-preserved : goal.loop-step-preserved
 loop-step-preserved c =
-    blocks_more c.args.circuit c.args.circuit.type_factor c.args.dt_ms c.loop-step.step c.args.end c.loop-step.s c.block_length-n.result c.block_length-n.ensures c.block_currents-i.ensures c.add_block-s.ensures ∙ c.loop-step.invariant
+    blocks_more c.args.circuit c.args.circuit.type_factor c.args.dt_ms c.loop-step.step c.args.end c.loop-step.s c.block_from-block.result.steps.value c.block_from-block.ensures.steps c.block_from-block.ensures.currents c.add_block-s.ensures ∙ c.loop-step.invariant
 
 pub returns : goal.returns
 returns c =

@@ -1,20 +1,11 @@
 -- `typed_currents` meets its contract: lane by lane. Assumes nothing.
 use Rattle.lanes.proofs.Lanes.{lanes_left, lanes_of_blank}
-use Rattle.lists.proofs.Fills.{upto_none, upto_more}
 use Rattle.lists.specs.Tables.{blank}
 use Rattle.float64.specs.Constants.{nought}
 use Rattle.float64.specs.Arithmetic.{◌⊗◌, of}
 use lib.Ieee.{Float}
 use Prim.Native.Nat.{ℕ}
-use mathlib.Core.Path.{refl}
 use Rattle.fault_sums.proofs.steps.typed_currents.Goals as goal
-
-pub loop-j-init : goal.loop-j-init
-unfolding blank
-loop-j-init c = upto_none _ _
-
-pub loop-j-preserved : goal.loop-j-preserved
-loop-j-preserved c = upto_more _ _ _ c.loop-j.invariant refl
 
 pub returns : goal.returns
 returns c =
