@@ -70,7 +70,7 @@ fn check_parts(s: Sheet, shown: Result<(), Refusal>) -> Result<(), Refusal>
     shown
 }
 
-// Whether this rule is the one that is broken.
+// Whether this rule is the one that is broken, by the numbers of which the contract speaks: with `==` its proof did not close.
 #[tactic(auto, unfolding(rules::specs::Studies::number_of))]
 fn is_rule(shown: Result<(), Refusal>, rule: Refusal) -> bool
     ensures { result ≡ eqb (number_of shown) (rule_number rule) }

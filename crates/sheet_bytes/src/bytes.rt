@@ -11,7 +11,7 @@ pub const LINE_LENGTH: usize = 134;
 
 const LINE_FEED: u8 = 10;
 
-// The sheet of the lines that have ended, and the bytes of the line that has not: the first `length` of `line`.
+// The sheet of the lines that have ended, and the bytes of the line that has not: the first `length` of `line`. The array is the room that a line grows into, which no slice says.
 #[derive(Clone, Copy)]
 pub struct Reading {
     pub sheet: Sheet,

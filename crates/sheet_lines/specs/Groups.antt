@@ -1,11 +1,8 @@
 -- What the functions that read several fields at once promise to those that read a line. No caller needs it.
-use Rattle.std.specs.Prelude.{ℕ, ◌+◌, Bool, cond, List}
-use Rattle.sheet_lines.specs.Fields.{is_whole, is_real, whole, real}
+use Rattle.std.specs.Prelude.{ℕ, ◌+◌, List}
+use Rattle.sheet_lines.specs.Fields.{whole, real}
 use Rattle.sheet_lines.specs.declared.fields.Wholes.{Wholes}
 use Rattle.sheet_lines.specs.declared.fields.Reals.{Reals}
-
-abbrev pub is_number : (wholes : Bool) → List ℕ → ℕ → Bool
-is_number wholes line field = cond wholes (is_whole line field) (is_real line field)
 
 abbrev pub wholes_in : List ℕ → Wholes
 wholes_in line = record { first = whole line 0; second = whole line 1; third = whole line 2 }

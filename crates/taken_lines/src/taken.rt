@@ -15,7 +15,7 @@ pub struct Sheet {
     // how many lines are taken, and the place of the last of them in T, O, S, C, B
     pub lines: usize,
     pub last: usize,
-    // the number of the first S, C and B line that rule 6, 7 or 8 refuses, or 0
+    // the number of the first S, C and B line that rule 6, 7 or 8 refuses, or 0, which X prints where no line shows a rule
     pub bad_station: usize,
     pub bad_cable: usize,
     pub bad_breaker: usize,

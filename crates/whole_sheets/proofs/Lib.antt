@@ -2,5 +2,7 @@
 mod Controls
 -- a result of which no refusal is printed is Ok
 pub mod Printed
--- number asks nothing of its caller
+-- the claims of specs/Claims, proved
+pub mod Claims
+-- the claims hold of what the contracts in src/ promise
 pub mod Tied
