@@ -9,21 +9,30 @@ use float64::{PI, abs, clamp, max, min, to_radians};
 use grid::ConverterStation;
 use square_root::SQRT_2;
 
+// A station with what its equations share: the cosine of its control angle, and its base impedance in ohms.
+#[derive(Clone, Copy)]
+struct LccStation {
+    station: ConverterStation,
+    cos_alpha: f64,
+    z_base: f64,
+    ghost cosine: { cos_alpha ≡ cos_alpha_of station },
+    ghost impedance: { z_base ≡ base_impedance station },
+}
+
 // The operating point at a DC current, of any station, accepted or not.
 pub fn lcc_point(station: ConverterStation, i_dc_ka: f64) -> ConverterOperatingPoint
     ensures { result ≡ lcc_point station i_dc_ka }
 {
-    let cos_alpha = cos(to_radians(station.control_angle_deg));
-    let z_base = base_impedance(station);
-    let v_dc = voltage(station, cos_alpha, z_base, i_dc_ka);
+    let lcc = LccStation::of(station);
+    let v_dc = lcc.voltage(i_dc_ka);
     ConverterOperatingPoint {
         station_id: station.id,
         p_dc_mw: v_dc * i_dc_ka,
         v_dc_kv: v_dc,
         i_dc_ka,
         firing_angle_deg: station.control_angle_deg,
-        power_factor: power_factor(station, cos_alpha, i_dc_ka),
-        losses_mw: losses(station, z_base, i_dc_ka),
+        power_factor: lcc.power_factor(i_dc_ka),
+        losses_mw: lcc.losses(i_dc_ka),
     }
 }
 
@@ -35,34 +44,44 @@ fn base_impedance(station: ConverterStation) -> f64
     v * v / max(station.p_rated_mw, LEAST)
 }
 
-// The DC voltage in kV.
-fn voltage(station: ConverterStation, cos_alpha: f64, z_base: f64, i_dc_ka: f64) -> f64
-    requires { (cos_alpha ≡ cos_alpha_of station) × (z_base ≡ base_impedance station) }
-    ensures { result ≡ lcc_voltage station i_dc_ka }
-{
-    let v_ac_kv = station.v_dc_rated_kv * PI / (3.0 * SQRT_2);
-    let v_d0 = (3.0 * SQRT_2 / PI) * v_ac_kv;
-    let x_c = station.x_commutation_pu * z_base;
-    v_d0 * cos_alpha - (3.0 / PI) * x_c * i_dc_ka
-}
+impl LccStation {
+    fn of(station: ConverterStation) -> Self
+        ensures { result.station ≡ station }
+    {
+        LccStation {
+            station,
+            cos_alpha: cos(to_radians(station.control_angle_deg)),
+            z_base: base_impedance(station),
+        }
+    }
 
-// The power factor, from 0 to 1. For the overlap angle 000 takes a difference of cosines, and at most PI/4.
-fn power_factor(station: ConverterStation, cos_alpha: f64, i_dc_ka: f64) -> f64
-    requires { cos_alpha ≡ cos_alpha_of station }
-    ensures { result ≡ lcc_power_factor station i_dc_ka }
-{
-    let p = max(station.p_rated_mw, LEAST);
-    let drop = 2.0 * station.x_commutation_pu * i_dc_ka / p * station.v_dc_rated_kv;
-    let mu_arg = clamp(cos_alpha - drop, -1.0, 1.0);
-    let mu_rad = min(abs(cos_alpha - mu_arg), PI / 4.0);
-    clamp(cos_alpha * (1.0 - mu_rad / 2.0), 0.0, 1.0)
-}
+    // The DC voltage in kV.
+    fn voltage(self, i_dc_ka: f64) -> f64
+        ensures { result ≡ lcc_voltage self.station i_dc_ka }
+    {
+        let v_ac_kv = self.station.v_dc_rated_kv * PI / (3.0 * SQRT_2);
+        let v_d0 = (3.0 * SQRT_2 / PI) * v_ac_kv;
+        let x_c = self.station.x_commutation_pu * self.z_base;
+        v_d0 * self.cos_alpha - (3.0 / PI) * x_c * i_dc_ka
+    }
 
-// The losses in MW: a part of the rated power, and what the current loses in the converter.
-fn losses(station: ConverterStation, z_base: f64, i_dc_ka: f64) -> f64
-    requires { z_base ≡ base_impedance station }
-    ensures { result ≡ lcc_losses station i_dc_ka }
-{
-    let r_conv = 0.001 * z_base;
-    abs(0.007 * station.p_rated_mw + i_dc_ka * i_dc_ka * r_conv)
+    // The power factor, from 0 to 1. For the overlap angle 000 takes a difference of cosines, and at most PI/4.
+    fn power_factor(self, i_dc_ka: f64) -> f64
+        ensures { result ≡ lcc_power_factor self.station i_dc_ka }
+    {
+        let station = self.station;
+        let p = max(station.p_rated_mw, LEAST);
+        let drop = 2.0 * station.x_commutation_pu * i_dc_ka / p * station.v_dc_rated_kv;
+        let mu_arg = clamp(self.cos_alpha - drop, -1.0, 1.0);
+        let mu_rad = min(abs(self.cos_alpha - mu_arg), PI / 4.0);
+        clamp(self.cos_alpha * (1.0 - mu_rad / 2.0), 0.0, 1.0)
+    }
+
+    // The losses in MW: a part of the rated power, and what the current loses in the converter.
+    fn losses(self, i_dc_ka: f64) -> f64
+        ensures { result ≡ lcc_losses self.station i_dc_ka }
+    {
+        let r_conv = 0.001 * self.z_base;
+        abs(0.007 * self.station.p_rated_mw + i_dc_ka * i_dc_ka * r_conv)
+    }
 }

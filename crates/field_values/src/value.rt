@@ -10,21 +10,6 @@ pub fn nearest_double(digits: u64, places: u64) -> f64
     ensures { result ≡ round binary64 false digits (10 ^ places) }
 {
     let d = digits as f64;
-    let p = power_of_ten(places) as f64;
+    let p = 10u64.pow(places as u32) as f64;
     d / p
-}
-
-fn power_of_ten(places: u64) -> u64
-    requires { places ≤ 6 }
-    ensures { result ≡ 10 ^ places }
-{
-    match places {
-        0 => 1,
-        1 => 10,
-        2 => 100,
-        3 => 1000,
-        4 => 10000,
-        5 => 100000,
-        _ => 1000000,
-    }
 }

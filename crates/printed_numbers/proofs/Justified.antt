@@ -4,11 +4,13 @@ use mathlib.Core.Path.{◌≡◌, refl, sym, ◌∙◌, ap}
 use mathlib.Core.Bool.{Bool, true, false, cond}
 use mathlib.Core.List.{List, [], ◌∷◌, ◌++◌, append_assoc, append-nil}
 use native.Mathlib.Omega.{arith}
-use native.Mathlib.Nat.{div-eq_of_lt, mod-eq_of_lt, div-lt_iff_lt-mul, pow-suc, add-zero}
+use native.Mathlib.Nat.{div-eq_of_lt, mod-eq_of_lt, div-lt_iff_lt-mul, pow-suc, le_of_eq}
 use native.Mathlib.Numerals.{sub-one, add-one}
-use lib.Dec.{ltb, leb}
-use lib.ListN.{length, set, take, drop, replicate, take-append-drop, length-append, length-replicate, length-drop, replicate-append-replicate}
-use lib.Seq.{sets, sets-eq, take_at, drop_at, drop-append-add, drop-append-le, drop-length}
+use lib.Dec.{ltb}
+use lib.ListN.{length, set, take, drop, replicate, length-append, length-replicate, length-drop, replicate-append-replicate}
+use lib.Seq.{sets, sets-eq, take_all, take_at, drop_at, drop-append-add, drop-append-le, drop-length}
+use Rattle.std.proofs.lemmas.Slice.{put_mid-paste}
+use borrow.Rule.Slice.PartMut.{put_mid}
 use borrow.Author.Tests.{ltb-true, ltb-false, lt-ltb, le-ltb, ne_eqb, le-leb, lt-leb}
 use Rattle.printed_numbers.specs.Printed.{numeral, digits_of, justified, right_justified, with_number}
 use Rattle.printed_numbers.specs.Glyphs.{glyph_of}
@@ -83,39 +85,43 @@ unfolding right_justified digits_of
 right_justified_lem zero n p g = absurd (omega arith)
 right_justified_lem (suc w) n p g = rw sub-one (as_written w 19 n g)
 
--- the last column stored first, and then the others: the columns hold n, and the rest is as it was
-pub stored : (out : List ℕ) (at width n : ℕ) → at + width ≤ length out → 0 < width → n < 10 ^ 20
-    → sets (set out (at + (width - 1)) (48 + n % 10)) at (cells (width - 1) (n / 10)) ≡ with_number out at width n
-unfolding with_number
-stored out at width n r p g =
+-- the last column stored first, and then the others: the columns hold n
+pub stored : (columns : List ℕ) (n : ℕ) → 0 < length columns → n < 10 ^ 20
+    → sets (set columns (length columns - 1) (48 + n % 10)) 0 (cells (length columns - 1) (n / 10)) ≡ right_justified (length columns) n
+stored columns n p g =
+    let width = length columns in
     let k : length (written (width - 1) n) ≡ width = rw (length-append, length_cells) (omega arith) in
-    ap (λ i. sets (set out (at + i) (48 + n % 10)) at (cells (width - 1) (n / 10))) (sym (length_cells (width - 1) (n / 10)))
-    ∙ sym (sets_snoc out at (cells (width - 1) (n / 10)) (48 + n % 10))
-    ∙ sets-eq (written (width - 1) n) out at (rw k r)
-    ∙ ap (λ i. take at out ++ written (width - 1) n ++ drop (at + i) out) k
-    ∙ ap (λ v. take at out ++ v ++ drop (at + width) out) (right_justified_lem width n p g)
-    ∙ sym (ap (λ t. cond t (take at out ++ right_justified width n ++ drop (at + width) out) out) (le-leb (at + width) (length out) r))
+    let place : width - 1 ≡ 0 + length (cells (width - 1) (n / 10)) = omega (arith, length_cells (width - 1) (n / 10)) in
+    let all : 0 + length (written (width - 1) n) ≡ width = omega (arith, k) in
+    ap (λ i. sets (set columns i (48 + n % 10)) 0 (cells (width - 1) (n / 10))) place
+    ∙ sym (sets_snoc columns 0 (cells (width - 1) (n / 10)) (48 + n % 10))
+    ∙ sets-eq (written (width - 1) n) columns 0 (le_of_eq all)
+    ∙ ap (λ i. written (width - 1) n ++ drop i columns) all
+    ∙ ap (λ l. written (width - 1) n ++ l) (drop-length columns)
+    ∙ append-nil (written (width - 1) n)
+    ∙ right_justified_lem width n p g
 
 -- ---- the ways out of `put_number`
 pub no_room : (out : List ℕ) (at width n : ℕ) → length out < at + width → out ≡ with_number out at width n
 unfolding with_number
 no_room out at width n h = sym (ap (λ t. cond t (take at out ++ right_justified width n ++ drop (at + width) out) out) (lt-leb (at + width) (length out) h))
 
-pub no_column : (out : List ℕ) (at width n : ℕ) → width ≡ 0 → out ≡ with_number out at width n
-unfolding with_number right_justified
-no_column out at width n e = go (leb (at + width) (length out))
-  where
-    none : take at out ++ right_justified width n ++ drop (at + width) out ≡ out
-    none = rw (e, add-zero, drop-length, append-nil) (take-append-drop at out)
-
-    go : (t : Bool) → out ≡ cond t (take at out ++ right_justified width n ++ drop (at + width) out) out
-    go true = sym none
-    go false = refl
+pub no_digit : (columns : List ℕ) (n : ℕ) → length columns ≡ 0 → columns ≡ right_justified (length columns) n
+unfolding right_justified
+no_digit [] n e = sym (drop-length (digits_of n))
+no_digit (b ∷ bs) n e = absurd (omega arith)
 
 -- ---- where there is room
 pub in_room : (out : List ℕ) (at width n : ℕ) → at + width ≤ length out → with_number out at width n ≡ take at out ++ right_justified width n ++ drop (at + width) out
 unfolding with_number
 in_room out at width n h = ap (λ t. cond t (take at out ++ right_justified width n ++ drop (at + width) out) out) (le-leb (at + width) (length out) h)
+
+-- the columns put back into the memory
+pub put_back : (out columns : List ℕ) (at width n : ℕ) → at + width ≤ length out → columns ≡ right_justified width n → put_mid at (at + width - at) out columns ≡ with_number out at width n
+put_back out columns at width n h e =
+    put_mid-paste at (at + width - at) out columns (right_justified width n) width e (omega arith) (sym (length_right_justified width n))
+    ∙ ap (λ l. take at out ++ l ++ drop (at + width) out) (take_all width (right_justified width n) (le_of_eq (length_right_justified width n)))
+    ∙ sym (in_room out at width n h)
 
 -- a number behind what is already written: pre is written, and rest lies behind it
 pub put_next : (pre rest o t : List ℕ) (at width n : ℕ) → o ≡ pre ++ rest → length pre ≡ at → width ≤ length rest → t ≡ with_number o at width n → t ≡ pre ++ right_justified width n ++ drop width rest

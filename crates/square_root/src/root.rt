@@ -35,18 +35,21 @@ fn root_of_positive(x: f64) -> f64
     let e = b / HIDDEN_DIGIT;
     let f = b % HIDDEN_DIGIT;
     if e == 0 {
-        let n = normalised(f);
-        f64::from_bits(root_pattern(n.digits, n.scale))
+        f64::from_bits(root_pattern(normalised(f)))
     } else {
-        f64::from_bits(root_pattern(f + HIDDEN_DIGIT, e + 1021))
+        let digits = f + HIDDEN_DIGIT;
+        let scale = e + 1021;
+        f64::from_bits(root_pattern(Normal { digits, scale }))
     }
 }
 
-// 53 binary digits, and a power of two.
+// 53 binary digits, and a power of two, at most a double's.
 #[derive(Clone, Copy)]
 struct Normal {
     digits: u64,
     scale: u64,
+    ghost long: { (2 ^ 52 ≤ digits) × (digits < 2 ^ 53) },
+    ghost in_range: { scale ≤ 3067 },
 }
 
 // A subnormal's digits, shifted until there are 53: 11 of a number's 64 are above those.
@@ -61,15 +64,15 @@ fn normalised(f: u64) -> Normal
     }
 }
 
-// The pattern of the root of m * 2^52 * 2^w.
-fn root_pattern(m: u64, w: u64) -> u64
-    requires { (2 ^ 52 ≤ m) × (m < 2 ^ 53) × (w ≤ 3067) }
-    ensures { RootPattern m w result }
+// The pattern of the root of m * 2^52 * 2^w, m the digits and w the scale.
+fn root_pattern(n: Normal) -> u64
+    ensures { RootPattern n.digits n.scale result }
 {
-    if w % 2 == 0 {
-        (w / 2) * HIDDEN_DIGIT + nearest_root(m)
+    let place = n.scale / 2;
+    if n.scale % 2 == 0 {
+        place * HIDDEN_DIGIT + nearest_root(n.digits)
     } else {
-        (w / 2) * HIDDEN_DIGIT + nearest_root(m * 2)
+        place * HIDDEN_DIGIT + nearest_root(n.digits * 2)
     }
 }
 

@@ -12,6 +12,6 @@ power_small r p h e = omega (arith, pow-le-pow_right {n = 10} (omega arith) h)
 
 pub returns : goal.returns
 returns c =
-    let p = c.power_of_ten-p in
+    let p = c.pow-p in
     divided c.args.digits p.result c.requires.digits_bound (power_small p.result c.args.places c.requires.places_bound p.ensures) (rw p.ensures (one-le-pow c.args.places 10 (omega arith)))
     ∙ ap (round binary64 false c.args.digits) p.ensures

@@ -1,10 +1,7 @@
 -- `whole_part_above` meets its contract. Assumes nothing.
 use borrow.Author.Rules.{rules}
-use Rattle.float64.proofs.Whole.{above_no_nan, below_one, no_fraction, fraction_cleared, cleared_no_nan}
+use Rattle.float64.proofs.Whole.{below_one, no_fraction, fraction_cleared, cleared_no_nan}
 use Rattle.float64.proofs.trunc.whole_part_above.Goals as goal
-
-pub float_to_bits-b : goal.float_to_bits-b
-float_to_bits-b c = above_no_nan _ c.requires
 
 pub returns-then-e-lt1023 : goal.returns-then-e-lt1023
 returns-then-e-lt1023 c = below_one _ (search rules) c.requires c.if-e-lt1023.true
