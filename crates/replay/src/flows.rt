@@ -2,10 +2,10 @@
 // result.
 use crate::bench::Bench;
 use crate::grids;
-use crate::grids::{CABLES, STATIONS};
 use crate::numbers::Ended;
 use crate::writer::Writer;
 use converter::ConverterOperatingPoint;
+use grid::{MOST_CABLES, MOST_STATIONS};
 use operating_points::{lcc_operating_point, vsc_operating_point};
 use power_flow::{DcGridSolution, solve_dc_power_flow};
 use rules::Refusal;
@@ -60,10 +60,10 @@ fn append_solution(
     w.append(solution.converged)?;
     w.append(solution.iterations)?;
     w.append(solution.total_losses_mw)?;
-    for point in &solution.operating_points[..STATIONS.min(stations)] {
+    for point in &solution.operating_points[..MOST_STATIONS.min(stations)] {
         append_point(w, *point)?;
     }
-    w.append_all(&solution.cable_losses_mw[..CABLES.min(cables)])
+    w.append_all(&solution.cable_losses_mw[..MOST_CABLES.min(cables)])
 }
 
 fn append_point(w: &mut Writer, p: ConverterOperatingPoint) -> Result<(), Ended> {

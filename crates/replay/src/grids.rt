@@ -2,18 +2,12 @@
 // is not.
 use crate::numbers::Ended;
 use crate::reader::Reader;
+use fault_cases::fault_type;
 use float64::from_bits;
 use grid::{
     ConverterStation, ConverterTopology, DcBreaker, DcBreakerType, DcCable, DcFaultEvent,
-    DcFaultType, DcSwitchingSimulator,
+    DcSwitchingSimulator, MOST_BREAKERS, MOST_CABLES, MOST_STATIONS,
 };
-
-// How many of each a grid has room for.
-pub const STATIONS: usize = 32;
-
-pub const CABLES: usize = 64;
-
-pub const BREAKERS: usize = 32;
 
 // Time step, duration and the three counts, then the parts: as many as the counts say, but no more than their arrays have room for. The
 // counts stay as they are read, also past the arrays.
@@ -21,9 +15,19 @@ pub fn read_grid(reader: &mut Reader) -> Result<DcSwitchingSimulator, Ended> {
     let [dt_us, duration_ms] = reader.doubles::<2>()?;
     let [stations, cables, breakers] = reader.numbers::<3>()?;
     let bare = DcSwitchingSimulator::new(dt_us, duration_ms);
-    let grid = read_parts(reader, bare, STATIONS.min(stations as usize), with_station)?;
-    let grid = read_parts(reader, grid, CABLES.min(cables as usize), with_cable)?;
-    let mut grid = read_parts(reader, grid, BREAKERS.min(breakers as usize), with_breaker)?;
+    let grid = read_parts(
+        reader,
+        bare,
+        MOST_STATIONS.min(stations as usize),
+        with_station,
+    )?;
+    let grid = read_parts(reader, grid, MOST_CABLES.min(cables as usize), with_cable)?;
+    let mut grid = read_parts(
+        reader,
+        grid,
+        MOST_BREAKERS.min(breakers as usize),
+        with_breaker,
+    )?;
     grid.n_stations = stations as usize;
     grid.n_cables = cables as usize;
     grid.n_breakers = breakers as usize;
@@ -148,19 +152,10 @@ fn breaker_type_of(kind: u64, time: f64, second: f64) -> Result<DcBreakerType, E
 pub fn read_fault(reader: &mut Reader) -> Result<DcFaultEvent, Ended> {
     let n = reader.numbers::<5>()?;
     Ok(DcFaultEvent {
-        fault_type: fault_type_of(n[0])?,
+        fault_type: fault_type(n[0]).ok_or(Ended)?,
         location_cable_id: n[1],
         location_fraction: from_bits(n[2]),
         fault_resistance: from_bits(n[3]),
         inception_time_ms: from_bits(n[4]),
     })
-}
-
-fn fault_type_of(number: u64) -> Result<DcFaultType, Ended> {
-    match number {
-        0 => Ok(DcFaultType::PoleToGround),
-        1 => Ok(DcFaultType::PoleToPole),
-        2 => Ok(DcFaultType::ConverterInternal),
-        _ => Err(Ended),
-    }
 }

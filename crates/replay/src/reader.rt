@@ -5,7 +5,7 @@ use crate::numbers::{Ended, LAST, LINE, ROOM, number_in};
 use float64::from_bits;
 use std::io::{Read, Stdin};
 
-// Lines, where the next one stands among them, and from where they are read.
+// Lines, where the next one stands among them, and from where they are read. No slice says it: the array is the room that reads fill.
 #[derive(Drop)]
 pub struct Reader {
     lines: [u8; ROOM],

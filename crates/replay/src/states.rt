@@ -1,16 +1,15 @@
 // States of a grid as the jobs give them, and job 6, which looks at two.
 use crate::bench::Bench;
 use crate::grids;
-use crate::grids::{BREAKERS, CABLES, STATIONS};
 use crate::numbers::Ended;
 use crate::reader::Reader;
 use crate::writer::Writer;
 use detection::detect_fault;
-use grid::DcSwitchingSimulator;
+use grid::{DcSwitchingSimulator, MOST_BREAKERS, MOST_CABLES, MOST_STATIONS};
 use state_derivatives::DcTransientState;
 
 // The voltages and currents of a state.
-const ENTRIES: usize = STATIONS + CABLES;
+const ENTRIES: usize = MOST_STATIONS + MOST_CABLES;
 
 // Job 6: a grid and two states of it, the later first. The answer is a refusal, and 1 or 0 if it is 0.
 pub fn detection(b: &mut Bench) -> Result<(), Ended> {
@@ -42,14 +41,14 @@ pub fn read_state(
     time_ms: f64,
 ) -> Result<DcTransientState, Ended> {
     let mut y = [0.0; ENTRIES];
-    let n = STATIONS.min(grid.n_stations) + CABLES.min(grid.n_cables);
+    let n = MOST_STATIONS.min(grid.n_stations) + MOST_CABLES.min(grid.n_cables);
     reader.fill(&mut y[..n])?;
     Ok(DcTransientState {
         time_ms,
         y,
-        station_currents_ka: [0.0; STATIONS],
+        station_currents_ka: [0.0; MOST_STATIONS],
         fault_current_ka: 0.0,
-        breaker_states: [true; BREAKERS],
+        breaker_states: [true; MOST_BREAKERS],
     })
 }
 
@@ -59,8 +58,8 @@ pub fn append_state(
     grid: DcSwitchingSimulator,
     state: DcTransientState,
 ) -> Result<(), Ended> {
-    let n = STATIONS.min(grid.n_stations);
-    let m = CABLES.min(grid.n_cables);
+    let n = MOST_STATIONS.min(grid.n_stations);
+    let m = MOST_CABLES.min(grid.n_cables);
     w.append_all(&state.y[..n])?;
     w.append_all(&state.station_currents_ka[..n])?;
     w.append_all(&state.y[n..n + m])

@@ -6,13 +6,14 @@ use crate::numbers::{Answer, Ended};
 use crate::reader::Reader;
 use crate::sweeps::append_kept;
 use crate::writer::Writer;
+use case_reasons::ROW_LENGTH;
 use fault_runs::FaultRun;
 use fault_start::simulate_fault;
 use fault_sweep::Sweep;
 use grid::{DcSwitchingSimulator, SweepOrder};
 use portions::Stop;
 use rules::Refusal;
-use runs::DcTransientResult;
+use runs::{Advanced, DcTransientResult, Run, advance};
 use sweep_start::start_sweep;
 use switching_plan::SwitchingVariables;
 use switching_runs::SwitchingRun;
@@ -20,9 +21,6 @@ use switching_start::simulate_switching;
 
 // The most numbers of lent memory.
 pub const MOST: usize = 4096;
-
-// How many numbers a row of a sweep has.
-const ROW: usize = 8;
 
 // A study after a call, how the call stopped, the steps that it made and the records or rows that it wrote.
 #[derive(Clone, Copy)]
@@ -40,7 +38,7 @@ pub trait Study: Copy {
     // Put together from a grid and the numbers behind it, unchecked and without steps, its variables, flow and open case zeros.
     fn read(reader: &mut Reader, grid: DcSwitchingSimulator) -> Result<Self, Ended>;
 
-    // The same study with steps made, as the numbers behind it say.
+    // The same study with steps made, as the numbers behind it say. Each writes a field of its own, for a trait has none.
     fn read_kept(self, reader: &mut Reader) -> Result<Self, Ended>;
 
     // Starts what it was put together from, unless that is refused.
@@ -81,19 +79,11 @@ impl Study for FaultRun {
     }
 
     fn call(self, allowance: u64, memory: &mut [f64]) -> Portion<FaultRun> {
-        let advanced = self.advance(allowance, memory);
-        Portion {
-            study: advanced.run,
-            stop: advanced.stop,
-            steps: advanced.steps,
-            records: advanced.records,
-        }
+        portion_of(self.advance(allowance, memory))
     }
 
     fn lend(self, w: &mut Writer, allowance: u64, space: usize) -> Result<FaultRun, Ended> {
-        let mut memory = [0.0; MOST];
-        let p = self.call(allowance, &mut memory[..space]);
-        append_portion(w, p, timing::record_length(self.grid), &memory)
+        lend_to_run(w, self, allowance, space)
     }
 
     fn append_end(self, w: &mut Writer) -> Result<(), Ended> {
@@ -130,19 +120,11 @@ impl Study for SwitchingRun {
     }
 
     fn call(self, allowance: u64, memory: &mut [f64]) -> Portion<SwitchingRun> {
-        let advanced = self.advance(allowance, memory);
-        Portion {
-            study: advanced.run,
-            stop: advanced.stop,
-            steps: advanced.steps,
-            records: advanced.records,
-        }
+        portion_of(self.advance(allowance, memory))
     }
 
     fn lend(self, w: &mut Writer, allowance: u64, space: usize) -> Result<SwitchingRun, Ended> {
-        let mut memory = [0.0; MOST];
-        let p = self.call(allowance, &mut memory[..space]);
-        append_portion(w, p, timing::record_length(self.grid), &memory)
+        lend_to_run(w, self, allowance, space)
     }
 
     fn append_end(self, w: &mut Writer) -> Result<(), Ended> {
@@ -197,12 +179,31 @@ impl Study for Sweep {
     fn lend(self, w: &mut Writer, allowance: u64, space: usize) -> Result<Sweep, Ended> {
         let mut memory = [0u64; MOST];
         let p = self.call(allowance, &mut memory[..space]);
-        append_portion(w, p, ROW, &memory)
+        append_portion(w, p, ROW_LENGTH, &memory)
     }
 
     fn append_end(self, w: &mut Writer) -> Result<(), Ended> {
         append_kept(w, self)
     }
+}
+
+// A run after an advance.
+fn portion_of<R>(advanced: Advanced<R>) -> Portion<R> {
+    Portion {
+        study: advanced.run,
+        stop: advanced.stop,
+        steps: advanced.steps,
+        records: advanced.records,
+    }
+}
+
+// A call of a run with memory of its own, and its answer.
+fn lend_to_run<R: Run>(w: &mut Writer, run: R, allowance: u64, space: usize) -> Result<R, Ended>
+    requires { space ≤ MOST }
+{
+    let mut memory = [0.0; MOST];
+    let p = portion_of(advance(run, allowance, &mut memory[..space]));
+    append_portion(w, p, timing::record_length(run.grid()), &memory)
 }
 
 // How a call stopped, its steps and how many records or rows it wrote, then these, as far as there is memory.

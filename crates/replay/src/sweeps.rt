@@ -1,11 +1,11 @@
 // A kept sweep as an answer.
-use crate::grids::BREAKERS;
 use crate::numbers::Ended;
 use crate::states;
 use crate::writer::Writer;
 use case_steps::OpenCase;
 use fault_plan::FaultVariables;
 use fault_sweep::Sweep;
+use grid::MOST_BREAKERS;
 
 // Case number and steps in the open case, then that case, its variables and the state, and of each breaker whether it is closed.
 pub fn append_kept(w: &mut Writer, sweep: Sweep) -> Result<(), Ended> {
@@ -17,7 +17,7 @@ pub fn append_kept(w: &mut Writer, sweep: Sweep) -> Result<(), Ended> {
     append_variables(w, open_case.variables)?;
     w.append_all(&[state.time_ms, state.fault_current_ka])?;
     states::append_state(w, grid, state)?;
-    w.append_all(&state.breaker_states[..BREAKERS.min(grid.n_breakers)])
+    w.append_all(&state.breaker_states[..MOST_BREAKERS.min(grid.n_breakers)])
 }
 
 // Whether a step that reason 8 counts has been detected, and the clearing step's current.

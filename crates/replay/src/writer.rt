@@ -5,7 +5,7 @@ ghost use Rattle.replay.specs.declared.numbers.TheConstants.{ROOM};
 use crate::numbers::{Answer, COLUMNS, Ended, LAST, LINE, ROOM};
 use std::io::Stdout;
 
-// Answers, how many of their bytes are not yet written, and where they are written.
+// Answers, how many of their bytes are not yet written, and where they are written. No slice says it: the room behind them is filled later.
 #[derive(Drop)]
 pub struct Writer {
     answers: [u8; ROOM],

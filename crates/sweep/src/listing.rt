@@ -1,18 +1,16 @@
 // The listing of a sheet: its rows as their cases close, and its totals; or its refusal.
 use crate::output::{MEMORY, print_end, print_refusal, print_rows};
 use crate::progress::Progress;
-use fault_cases::case_count;
+use fault_cases::{FAULT_TYPES, MOST_TENTHS, case_count};
 use fault_sweep::Sweep;
 use portions::Stop;
 use sheet::{SheetContents, SheetRefusal};
 use std::io;
 use sweep_start::start_sweep;
-use timing::total_steps;
+use timing::{MOST_STEPS, total_steps};
 
-// No case has more steps.
-const MOST_STEPS: u64 = 1_000_000;
 // A cable has no more cases: three types at eleven tenths.
-const CASES_OF_CABLE: u64 = 33;
+const CASES_OF_CABLE: u64 = FAULT_TYPES * (MOST_TENTHS + 1);
 // A loop has to end, and no sweep has more calls than this.
 const CALLS: u64 = u64::MAX;
 

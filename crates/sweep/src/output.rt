@@ -1,10 +1,10 @@
 // The lines of the listing on standard output. Once its reader has gone, none can be written.
 ghost use Rattle.std.specs.Prelude.{◌<◌};
 
+use case_reasons::ROW_LENGTH;
 use listing_text::{end_text, refusal_text, row_text};
 use std::io;
 
-const ROW_LENGTH: usize = 8;
 // Room for 64 rows, more than a cable has cases.
 const ROWS: usize = 64;
 
@@ -15,16 +15,9 @@ fn row_at(memory: &[u64; MEMORY], row: usize) -> [u64; ROW_LENGTH]
     requires { row < ROWS }
 {
     let at = ROW_LENGTH * row;
-    [
-        memory[at],
-        memory[at + 1],
-        memory[at + 2],
-        memory[at + 3],
-        memory[at + 4],
-        memory[at + 5],
-        memory[at + 6],
-        memory[at + 7],
-    ]
+    let mut numbers = [0; ROW_LENGTH];
+    numbers.copy_from_slice(&memory[at..at + ROW_LENGTH]);
+    numbers
 }
 
 // The first rows of the memory, a line each.
