@@ -14,7 +14,8 @@ A place is found by its form alone. What a form is:
  4   functions that are one match on an enum with constants as arms, and comparisons of enums by match
  5a  a `requires` that stands, but for names, in three functions or more
  5b  functions with six parameters or more
- 6a  arrays with a count beside them among the parameters of a function or the fields of a struct
+ 6   arrays with a count beside them among the parameters of a function or the fields of a struct
+ 6b  arrays of fixed length beside a count that a type holds to them (`Count`)
  7   parameters of type bool or of an enum that choose what a loop or a function does
  8   answers to goals in proofs/, and lines of them
 """
@@ -84,6 +85,8 @@ for f in FILES:
         arrays = [n for n, t in fields if t.startswith('[')]
         counts = [n for n, t in fields if t == 'usize']
         if arrays and counts: found['6'].append((where(f, s, m.start()), f'struct {m.group(1)}: {", ".join(arrays)} beside {", ".join(counts)}'))
+        counts = [n for n, t in fields if re.match(r'\w*Count(<\w+>)?$', t)]
+        if arrays and counts: found['6b'].append((where(f, s, m.start()), f'struct {m.group(1)}: {", ".join(arrays)} beside {", ".join(counts)}'))
     for m in re.finditer(r'\b(' + KINDS + r'): &?(?:\[)?(u64|usize|u8)\b', s): found['1c'].append((where(f, s, m.start()), m.group(0)))
     for m in re.finditer(r'^const (\w+): \[u64; \d+\]', s, re.M): found['1c'].append((where(f, s, m.start()), m.group(1)))
     for m in re.finditer(r'^\s*while ', s, re.M): found['3'].append((where(f, s, m.start(0) + 1), s[m.start(0):s.index('\n', m.start(0) + 1)].strip()))
@@ -99,6 +102,8 @@ for f in FILES:
         arrays = [p for p in ps if re.search(r': &?(mut )?\[', p) or re.search(r': &?\[', p)]
         counts = [p for p in ps if re.search(r': usize$', p) and re.match(r'n\b|m\b|n_|len|count|size', p)]
         if arrays and counts: found['6'].append((w, f'{name}: arrays beside {", ".join(c.split(":")[0] for c in counts)}'))
+        counts = [p for p in ps if re.search(r': \w*Count(<\w+>)?$', p)]
+        if counts and any('; ' in a for a in arrays): found['6b'].append((w, f'{name}: arrays beside {", ".join(c.split(":")[0] for c in counts)}'))
         for p in ps:
             if re.search(r': (bool|Limit|Kind)$', p): found['7'].append((w, f'{name}({p})'))
         if body.count('\n') > 3:
