@@ -3,7 +3,7 @@ ghost use Rattle.std.specs.Prelude.{◌≡◌, cond};
 ghost use Rattle.std.specs.Float.Ieee.{lt};
 ghost use Rattle.breaker_times.specs.Breakers.{clearing_time_of, fastest_of};
 
-use grid::{DcBreakerType, DcSwitchingSimulator};
+use grid::{BreakerCount, DcBreakerType, DcSwitchingSimulator};
 use timing::duration_ms;
 
 // breaker_clearing_time_ms
@@ -27,12 +27,14 @@ pub fn breaker_clearing_time_ms(breaker_type: DcBreakerType) -> f64
 pub fn fastest_breaker_clearing_ms(g: DcSwitchingSimulator) -> f64
     ensures { result ≡ fastest_of g }
 {
-    let breakers = g.present_breakers();
-    if breakers.is_empty() {
+    let n = BreakerCount::of(g.n_breakers);
+    if n.value == 0 {
         return duration_ms(g);
     }
+    // Taken out of the grid: where the grid is lent, the call copies all of it.
+    let breakers = g.breakers;
     let mut fastest = f64::MAX;
-    for b in breakers {
+    for b in &breakers[..n.value] {
         fastest = faster_of(fastest, breaker_clearing_time_ms(b.breaker_type));
     }
     fastest

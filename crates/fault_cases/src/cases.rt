@@ -2,7 +2,7 @@
 ghost use Rattle.std.specs.Prelude.{◌≡◌, cond, nat_lt, Some, None};
 ghost use Rattle.fault_cases.specs.Cases.{types, tenths_of, cases_of, place_of, fault_type, type_number, fault_in};
 
-use grid::{DcFaultEvent, DcFaultType, DcSwitchingSimulator, SweepOrder};
+use grid::{CableCount, DcFaultEvent, DcFaultType, DcSwitchingSimulator, SweepOrder};
 use std::num::nearest_u64_to_f64;
 
 // Pole to ground, pole to pole, internal.
@@ -34,7 +34,7 @@ pub fn tenth_count(o: SweepOrder) -> u64
 pub fn case_count(g: DcSwitchingSimulator, o: SweepOrder) -> u64
     ensures { result ≡ cases_of g o }
 {
-    let cables = g.present_cables().len() as u64;
+    let cables = CableCount::of(g.n_cables).value as u64;
     cables * (FAULT_TYPES * tenth_count(o))
 }
 

@@ -2,7 +2,10 @@
 ghost use Rattle.std.specs.Prelude.{◌≡◌};
 ghost use Rattle.rule_tests.specs.Rules.{too_many_parts, time_outside, too_many_steps, station_outside, cable_outside, breaker_outside};
 
-use grid::{DcSwitchingSimulator, MOST_BREAKERS, MOST_CABLES, MOST_STATIONS};
+use grid::{
+    BreakerCount, CableCount, DcSwitchingSimulator, MOST_BREAKERS, MOST_CABLES, MOST_STATIONS,
+    StationCount,
+};
 use ranges::in_range;
 use timing::{MOST_STEPS, total_steps};
 
@@ -33,19 +36,19 @@ pub fn too_many_steps(g: DcSwitchingSimulator) -> bool
 pub fn station_outside(g: DcSwitchingSimulator) -> bool
     ensures { result ≡ station_outside g }
 {
-    part_positions::first_bad_station(g) < g.present_stations().len()
+    part_positions::first_bad_station(g) < StationCount::of(g.n_stations).value
 }
 
 // Rule 7 applies.
 pub fn cable_outside(g: DcSwitchingSimulator) -> bool
     ensures { result ≡ cable_outside g }
 {
-    part_positions::first_bad_cable(g) < g.present_cables().len()
+    part_positions::first_bad_cable(g) < CableCount::of(g.n_cables).value
 }
 
 // Rule 8 applies.
 pub fn breaker_outside(g: DcSwitchingSimulator) -> bool
     ensures { result ≡ breaker_outside g }
 {
-    part_positions::first_bad_breaker(g) < g.present_breakers().len()
+    part_positions::first_bad_breaker(g) < BreakerCount::of(g.n_breakers).value
 }

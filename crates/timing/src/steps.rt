@@ -2,7 +2,10 @@
 ghost use Rattle.std.specs.Prelude.{◌≡◌, ◌-◌};
 ghost use Rattle.timing.specs.Steps.{time_step_ms, duration_ms, steps_of, steps_of_quotient, counted_to, interval_of, recorded, records_of, record_length};
 
-use grid::{DcSwitchingSimulator, LEAST_DURATION_MS, LEAST_TIME_STEP_US};
+use grid::{
+    BreakerCount, CableCount, DcSwitchingSimulator, LEAST_DURATION_MS, LEAST_TIME_STEP_US,
+    StationCount,
+};
 
 pub const MOST_STEPS: u64 = 1000000;
 
@@ -71,5 +74,8 @@ pub fn recorded_steps(total_steps: u64) -> u64
 pub fn record_length(g: DcSwitchingSimulator) -> usize
     ensures { result ≡ record_length g }
 {
-    2 + 2 * g.present_stations().len() + g.present_cables().len() + g.present_breakers().len()
+    let stations = StationCount::of(g.n_stations);
+    let cables = CableCount::of(g.n_cables);
+    let breakers = BreakerCount::of(g.n_breakers);
+    2 + 2 * stations.value + cables.value + breakers.value
 }

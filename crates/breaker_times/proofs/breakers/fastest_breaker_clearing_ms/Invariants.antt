@@ -6,4 +6,4 @@ use Rattle.breaker_times.specs.Breakers.{faster, largest}
 use Rattle.breaker_times.proofs.breakers.fastest_breaker_clearing_ms.Given as goal
 
 abbrev pub invariant-loop-b : goal.invariant-loop-b
-invariant-loop-b l = l.fastest ≡ foldl faster largest (take l.b-index l.breakers)
+invariant-loop-b l = l.fastest ≡ foldl faster largest (take l.b-index l.b-items)
