@@ -1,13 +1,11 @@
--- Breakers that are counted, and a row at its place: what the code's slices say in the words of the definitions. Assumes nothing.
-use Prim.Native.Nat.{ℕ, ◌+◌, ◌-◌, ◌<◌, ◌≤◌}
+-- Breakers that are counted: what the code's slices say in the words of the definitions. Assumes nothing.
+use Prim.Native.Nat.{ℕ, ◌<◌}
 use native.Mathlib.Omega.{arith}
 use mathlib.Core.Path.{◌≡◌, sym, ap, ◌∙◌}
 use mathlib.Core.Bool.{Bool, ◌&&◌}
-use mathlib.Core.List.{List, ◌++◌, append_assoc}
-use lib.ListN.{length, get_or, take, drop, length-take}
-use lib.Seq.{sets, sets-eq, drop-drop}
+use mathlib.Core.List.{List}
+use lib.ListN.{length, get_or, take, length-take}
 use lib.Ieee.{Float}
-use borrow.Rule.Slice.PartMut.{put_mid}
 use Rattle.std.proofs.lemmas.List.{get_or-take}
 use Rattle.lists.specs.Scans.{some}
 use Rattle.lists.proofs.Scanning.{some_same}
@@ -30,10 +28,3 @@ module _ (breakers : List DcBreaker) (cable : DcCable) (limit : Limit) (value : 
   exceeded_present n =
       some_same _ _ (length (take n breakers))
       (λ k l. ap (λ b. at_end cable b && exceeds value (limit_of limit b)) (get_or-take n breakers k blank_breaker (omega (arith, length-take n breakers))))
-
--- eight numbers copied to a place
-pub row_put : (rows row : List ℕ) (at : ℕ) → at + 8 ≤ length rows → length row ≡ 8 → put_mid at (at + 8 - at) rows row ≡ sets rows at row
-row_put rows row at h e =
-    let k : at + 8 - at ≡ 8 = omega arith in
-    let q : drop (at + length row) rows ≡ drop (at + 8 - at) (drop at rows) = rw (e, k) (sym (drop-drop 8 at rows)) in
-    sym (sets-eq row rows at (rw e h) ∙ ap (λ z. take at rows ++ row ++ z) q ∙ append_assoc (take at rows) row (drop (at + 8 - at) (drop at rows)))

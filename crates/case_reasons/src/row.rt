@@ -22,7 +22,7 @@ pub struct CaseRow {
 }
 
 // Writes the row of a case that has reasons from a position on, where the whole of it fits, and says how many rows that were.
-#[tactic(auto, using(crate::proofs::Written::row_put))]
+#[tactic(auto, using(lists::proofs::Stores::put_sets))]
 pub fn put_row(rows: &mut [u64], at: usize, row: CaseRow) -> usize
     ensures answer { result ≡ cond (writes_row row.reasons at (length rows.old)) 1 0 }
     ensures memory { rows.new ≡ sets rows.old at (cond (writes_row row.reasons at (length rows.old)) (numbers_of row.place row.reasons row.outcome row.loss_mw) []) }

@@ -8,6 +8,7 @@ use lib.ListN.{length, set, get_or, take, drop, replicate, length-append, length
 use native.Mathlib.Numerals.{add-one}
 use lib.Seq.{sets, sets-eq, drop-drop, drop-cons, take_all, take_at, drop-append-add}
 use borrow.Rule.Slice.PartMut.{put_mid}
+use Rattle.lists.proofs.Stores.{put_sets}
 use Rattle.float64.specs.Pattern.{double_of}
 use Rattle.printed_numbers.specs.Printed.{right_justified, with_number}
 use Rattle.printed_numbers.proofs.Justified.{length_right_justified, put_next}
@@ -63,18 +64,11 @@ put_values_lem (b ∷ bs) pre rest o at e h r =
     ∙ ap (λ z. z ++ drop (21 * length bs) (drop 21 rest)) (append_assoc pre c (decimals_of bs))
     ∙ ap (λ z. pre ++ (c ++ decimals_of bs) ++ z) (drop-drop (21 * length bs) 21 rest ∙ ap (λ k. drop k rest) (sym s))
 
--- a column copied to its place
-column_put : (out c : List ℕ) (place : ℕ) → place + 21 ≤ length out → length c ≡ 21 → put_mid place (place + 21 - place) out c ≡ sets out place c
-column_put out c place h e =
-    let k : place + 21 - place ≡ 21 = omega arith in
-    let q : drop (place + length c) out ≡ drop (place + 21 - place) (drop place out) = rw (e, k) (sym (drop-drop 21 place out)) in
-    sym (sets-eq c out place (rw e h) ∙ ap (λ z. take place out ++ c ++ z) q ∙ append_assoc (take place out) c (drop (place + 21 - place) (drop place out)))
-
 -- one double more
 pub value_more : (out bs c : List ℕ) (place i : ℕ) → place + 21 ≤ length out → i < length bs → c ≡ decimal_column (double_of (get_or bs i 0))
     → put_values (put_mid place (place + 21 - place) out c) (place + 21) (drop (i + 1) bs) ≡ put_values out place (drop i bs)
 value_more out bs c place i l h e =
-    ap (λ z. put_values z (place + 21) (drop (i + 1) bs)) (column_put out c place l (ap length e ∙ length_column (double_of (get_or bs i 0))) ∙ ap (sets out place) e)
+    ap (λ z. put_values z (place + 21) (drop (i + 1) bs)) (put_sets 21 out c place l (ap length e ∙ length_column (double_of (get_or bs i 0))) ∙ ap (sets out place) e)
     ∙ ap (λ k. put_values (sets out place (decimal_column (double_of (get_or bs i 0)))) (place + 21) (drop k bs)) (add-one i)
     ∙ sym (ap (put_values out place) (drop-cons bs i 0 h))
 

@@ -10,9 +10,8 @@ use mathlib.Core.Bool.{Bool, true, false, not, ◌&&◌, ◌||◌}
 use mathlib.Core.List.{List, [], ◌∷◌, map}
 use lib.Dec.{ltb, leb-suc-suc}
 use lib.ListN.{length, get_or, take, length-map, length-take}
-use lib.Seq.{take_all, length-take-le}
 use Rattle.lists.specs.Scans.{every, passing, some}
-use Rattle.lists.proofs.Counting.{by-test, lt_or_le}
+use Rattle.lists.proofs.Counting.{by-test}
 
 pub and_second : (a b : Bool) → b ≡ false → (a && b) ≡ false
 and_second true b h = h
@@ -78,35 +77,16 @@ every_of f h i (x ∷ xs) p = both (h x) (every h xs) (i x (left (f x) (every f 
 pub length_cut : {A : Type 0} (xs : List A) (n m k : ℕ) → length xs ≡ m → k ≡ min n m → k ≡ length (take n xs)
 length_cut xs n m k l e = rw (length-take, l) e
 
--- a count past the end takes what there is
-pub take-cut : {A : Type 0} (xs : List A) (n m k : ℕ) → length xs ≡ m → k ≡ min n m → take k xs ≡ take n xs
-take-cut xs n m k l e =
-    ⊎_elim
-    (λ h. let z : k ≡ n = omega arith in rw z)
-    (λ h. take_all k xs (let z : length xs ≤ k = omega arith in z) ∙ sym (take_all n xs (let z : length xs ≤ n = omega arith in z)))
-    (lt_or_le n m)
-
 module _ {A : Type 0} (f : A → Bool) where
   -- all of a list that passes is passing
   pub passing_all : (xs : List A) → every f xs ≡ true → passing f xs ≡ length xs
   passing_all [] p = refl
   passing_all (x ∷ xs) p = rw (left (f x) (every f xs) p) (ap suc (passing_all xs (right (f x) (every f xs) p)))
 
-  -- where none within the count fails, the scan stops at the count, or at the list's end
-  pub passing_end : (xs : List A) (n m i k : ℕ) → length xs ≡ m → k ≡ min n m → i ≤ k → k ≤ i → every f (take i xs) ≡ true → k ≡ passing f (take n xs)
-  passing_end xs n m i k l e a b p =
-      let z : i ≡ k = omega arith in
-      let q : every f (take k xs) ≡ true = rw z at p in
-      rw (← take-cut xs n m k l e) (sym (passing_all (take k xs) q ∙ length-take-le k xs (let y : k ≤ length xs = omega arith in y)))
-
   -- the scan stops early exactly where not all pass
   pub passing_short : (ys : List A) → ltb (passing f ys) (length ys) ≡ not (every f ys)
   passing_short [] = refl
   passing_short (y ∷ ys) = by-test (f y) (λ e. rw e (leb-suc-suc (suc (passing f ys)) (length ys) ∙ passing_short ys)) (λ e. rw e (lt-ltb 0 (suc (length ys)) (omega arith)))
-
-  -- the same of a scan to a count
-  pub stops_short : (xs : List A) (n m p k : ℕ) → length xs ≡ m → p ≡ passing f (take n xs) → k ≡ min n m → ltb p k ≡ not (every f (take n xs))
-  stops_short xs n m p k l e h = rw (e, h, ← l, ← length-take n xs) (passing_short (take n xs))
 
 -- the length of an array of structs, as owning it tells
 pub unmapped : {A B : Type 0} (f : A → B) (l : List A) (n : ℕ) → length (map f l) ≡ n → length l ≡ n

@@ -1,11 +1,12 @@
--- A loop that stores numbers from a position of a longer list on: after i turns the list is `sets d at (tab i f)`, d what it was before. Assumes nothing.
-use Prim.Native.Nat.{ℕ, suc, ◌+◌}
+-- A loop that stores numbers from a position of a longer list on: after i turns the list is `sets d at (tab i f)`, d what it was before; and numbers that are copied to a place. Assumes nothing.
+use Prim.Native.Nat.{ℕ, suc, ◌+◌, ◌-◌, ◌≤◌}
 use native.Mathlib.Numerals.{add-one}
 use native.Mathlib.Omega.{arith}
-use mathlib.Core.Path.{◌≡◌, ap, ◌∙◌}
-use mathlib.Core.List.{List, [], ◌∷◌, ◌++◌}
-use lib.ListN.{length, set}
-use lib.Seq.{sets}
+use mathlib.Core.Path.{◌≡◌, sym, ap, ◌∙◌}
+use mathlib.Core.List.{List, [], ◌∷◌, ◌++◌, append_assoc}
+use lib.ListN.{length, set, take, drop}
+use lib.Seq.{sets, sets-eq, drop-drop}
+use borrow.Rule.Slice.PartMut.{put_mid}
 use Rattle.lists.specs.Tables.{tab}
 use Rattle.lists.proofs.Fills.{length-tab}
 
@@ -21,3 +22,10 @@ module _ {A : Type 0} where
   pub sets_more : (f : ℕ → A) (d : List A) (at i : ℕ) {x : List A} {v : A} → x ≡ sets d at (tab i f) → v ≡ f i → set x (at + i) v ≡ sets d at (tab (i + 1) f)
   unfolding tab
   sets_more f d at i h e = rw (add-one, sets_append, length-tab {A = A} i f, h, e)
+
+  -- n of them copied to their place
+  pub put_sets : (n : ℕ) (d xs : List A) (at : ℕ) → at + n ≤ length d → length xs ≡ n → put_mid at (at + n - at) d xs ≡ sets d at xs
+  put_sets n d xs at h e =
+      let k : at + n - at ≡ n = omega arith in
+      let q : drop (at + length xs) d ≡ drop (at + n - at) (drop at d) = rw (e, k) (sym (drop-drop n at d)) in
+      sym (sets-eq xs d at (rw e h) ∙ ap (λ z. take at d ++ xs ++ z) q ∙ append_assoc (take at d) xs (drop (at + n - at) (drop at d)))
