@@ -53,8 +53,7 @@ impl Run for FaultRun {
     }
 
     fn state(&self) -> DcTransientState {
-        let v = self.variables;
-        v.state
+        self.variables.state
     }
 
     fn plan(&self) -> FaultSteps {

@@ -3,7 +3,10 @@ ghost use Rattle.std.specs.Prelude.{◌≡◌, cond, [], ◌+◌, ◌≤◌, len
 ghost use Rattle.std.proofs.lemmas.List.Edits.{sets};
 ghost use Rattle.records.specs.Records.{closed_number, Counted, counts_of, numbers_in, record_by, fits_in, puts};
 
-use grid::{DcSwitchingSimulator, MOST_BREAKERS, MOST_CABLES, MOST_STATIONS};
+use grid::{
+    BreakerCount, CableCount, DcSwitchingSimulator, MOST_BREAKERS, MOST_CABLES, MOST_STATIONS,
+    StationCount,
+};
 use state_derivatives::DcTransientState;
 
 // How many of each a record has.
@@ -19,9 +22,9 @@ pub fn record_counts(g: DcSwitchingSimulator) -> RecordCounts
     ensures { result ≡ counts_of g }
 {
     RecordCounts {
-        stations: g.present_stations().len(),
-        cables: g.present_cables().len(),
-        breakers: g.present_breakers().len(),
+        stations: StationCount::of(g.n_stations).value,
+        cables: CableCount::of(g.n_cables).value,
+        breakers: BreakerCount::of(g.n_breakers).value,
     }
 }
 
@@ -47,22 +50,11 @@ pub fn put_if_recorded(
 fn fits(counts: RecordCounts, at: usize, len: usize) -> bool
     ensures { result ≡ fits_in counts at len }
 {
-    if MOST_STATIONS < counts.stations {
-        return false;
-    }
-    if MOST_CABLES < counts.cables {
-        return false;
-    }
-    if MOST_BREAKERS < counts.breakers {
-        return false;
-    }
-    if len < at {
-        return false;
-    }
-    if len - at < 2 + counts.stations + counts.stations + counts.cables + counts.breakers {
-        return false;
-    }
-    true
+    counts.stations <= MOST_STATIONS
+        && counts.cables <= MOST_CABLES
+        && counts.breakers <= MOST_BREAKERS
+        && at <= len
+        && 2 + 2 * counts.stations + counts.cables + counts.breakers <= len - at
 }
 
 // A state's record. The counts are any numbers, so that they fit is asked (`Counted`): with a `Count` for each in `RecordCounts`, `put_if_recorded` would take fewer counts than it does.

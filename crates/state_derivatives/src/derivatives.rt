@@ -72,11 +72,11 @@ fn pass_current(nets: &mut [f64], from: usize, to: usize, current: f64)
 {
     let n = nets.len();
     if to < n {
-        nets[to] = nets[to] + current;
+        nets[to] += current;
     }
     if from < n {
         if from != to {
-            nets[from] = nets[from] - current;
+            nets[from] -= current;
         }
     }
 }
@@ -89,11 +89,11 @@ fn drain_ends(nets: &mut [f64; MOST_STATIONS], drain: Drain, y: &[f64; 96], n: S
     let from = drain.from;
     let to = drain.to;
     if from < n.value {
-        nets[from] = nets[from] - drain_current(drain, y[from]);
+        nets[from] -= drain_current(drain, y[from]);
     }
     if to < n.value {
         if to != from {
-            nets[to] = nets[to] - drain_current(drain, y[to]);
+            nets[to] -= drain_current(drain, y[to]);
         }
     }
 }

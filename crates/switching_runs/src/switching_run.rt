@@ -44,8 +44,7 @@ impl Run for SwitchingRun {
     }
 
     fn state(&self) -> DcTransientState {
-        let v = self.variables;
-        v.state
+        self.variables.state
     }
 
     fn plan(&self) -> SwitchingPlan {
