@@ -39,7 +39,7 @@ pub struct SiteSums {
 // How many steps of a block there are, of which each takes a lane.
 type StepCount = Count<LANES>;
 
-// Some steps one after another. Lanes past them have the current at time 0, and are not folded.
+// Some steps one after another. Lanes past them have the current at time 0, and are not folded: all sixteen are computed at once, so that the array stays whole.
 #[derive(Clone, Copy)]
 struct Block {
     // Before the factor of the fault's type.

@@ -63,7 +63,8 @@ fn digit(b: u8) -> Option<u64>
     }
 }
 
-// The number of a field, once its last column is read, or None if it has no digit, none after its point, or more than six there.
+// The number of a field, once its last column is read, or None if it has no digit, none after its point, or more than six there. A scan has a field only
+// at its end, so that this is no conversion.
 fn answer(s: Scan) -> Option<Decimal>
     ensures { result ≡ answer_of (Some s) }
 {

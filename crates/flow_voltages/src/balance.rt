@@ -13,7 +13,7 @@ use conductances::conductances_of;
 use float64::{abs, max};
 use grid::{DcSwitchingSimulator, MOST_STATIONS, StationCount};
 
-// The conductances between the stations that there are.
+// The conductances between the stations that there are: a count beside the matrix, whose rows are 32 long whatever it is.
 #[derive(Clone, Copy)]
 pub struct Conductances {
     pub n: StationCount,

@@ -105,7 +105,7 @@ fn run_passes(
 }
 
 // The voltages that the passes begin at and the powers that they look for, of any grid, whatever stood in the arrays before. Returned in a struct they are copied, and a flow of two
-// stations takes a tenth to a fifth longer.
+// stations takes a tenth to a fifth longer. One index goes through the stations and both arrays.
 #[tactic(auto, using(lists::proofs::Fills::upto_none, lists::proofs::Fills::upto_more, lists::proofs::Fills::get_d_within), unfolding(lists::specs::Tables::blank))]
 fn read_ratings(
     rated: &mut [f64; MOST_STATIONS],

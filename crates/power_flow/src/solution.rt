@@ -21,7 +21,8 @@ pub struct Points {
     pub total_losses_mw: f64,
 }
 
-// The points of a grid's stations at their voltages and currents, zeros past them; and the sum of the losses handed in and theirs.
+// The points of a grid's stations at their voltages and currents, zeros past them; and the sum of the losses handed in and theirs. One index goes through
+// stations, voltages, currents and points.
 #[tactic(auto, using(lists::proofs::Fills::upto_none, lists::proofs::Fills::upto_more, lists::proofs::Fills::get_d_within, float64::proofs::Sums::added_more), unfolding(lists::specs::Tables::blank))]
 pub fn operating_points(g: &DcSwitchingSimulator, found: &Found, losses: f64) -> Points
     ensures points { result.points ≡ padded 32 (station_count g.now.n_stations) (λ k. operating_point (get_or g.now.stations k blank_station) (of found.now.voltages.v_dc_kv k) (of found.now.i_dc_ka k)) blank_point }
@@ -84,7 +85,7 @@ fn is_lcc(topology: ConverterTopology) -> bool
 }
 
 // The losses of a grid's cables in MW at the stations' voltages, zeros past them, whatever stood in the array before; and their sum, in the cables' order.
-// Returned in a struct the array is copied, as in `flow_voltages`.
+// Returned in a struct the array is copied, as in `flow_voltages`. One index goes through the cables and their losses.
 #[tactic(auto, using(lists::proofs::Fills::upto_none, lists::proofs::Fills::upto_more, lists::proofs::Fills::get_d_within, float64::proofs::Sums::added_more), unfolding(lists::specs::Tables::blank))]
 pub fn cable_losses(
     losses: &mut [f64; MOST_CABLES],

@@ -3,7 +3,7 @@ use crate::bench::Bench;
 use crate::grids;
 use crate::numbers::Ended;
 use crate::writer::Writer;
-use grid::{DcSwitchingSimulator, MOST_BREAKERS};
+use grid::DcSwitchingSimulator;
 
 // A grid, which is not refused. The answer: steps, counted to one past the limit, recording interval, recorded steps, length of
 // a record; time step and duration in milliseconds and the fastest clearing time; then each breaker's clearing time.
@@ -36,7 +36,7 @@ fn append_times(w: &mut Writer, grid: DcSwitchingSimulator) -> Result<(), Ended>
 // The fastest breaker's, then each one's, no more of them than there is room for.
 fn append_clearing_times(w: &mut Writer, grid: DcSwitchingSimulator) -> Result<(), Ended> {
     w.append(breaker_times::fastest_breaker_clearing_ms(grid))?;
-    for breaker in &grid.breakers[..MOST_BREAKERS.min(grid.n_breakers)] {
+    for breaker in grid.present_breakers() {
         w.append(breaker_times::breaker_clearing_time_ms(breaker.breaker_type))?;
     }
     Ok(())
