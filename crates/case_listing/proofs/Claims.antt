@@ -2,7 +2,7 @@
 use Prim.Native.Nat.{ℕ, ◌*◌, ◌/◌, ◌%◌, ◌≤◌, ◌<◌}
 use native.Mathlib.Nat.{mod-lt, div-lt_iff_lt-mul}
 use native.Mathlib.Omega.{arith}
-use mathlib.Core.Logic.{inl, inr, ⊎_elim}
+use mathlib.Core.Logic.{◌⊎◌, inl, inr, ⊎_elim}
 use mathlib.Core.Path.{◌≡◌, refl, ap}
 use mathlib.Core.Bool.{Bool, true, false, not, ◌&&◌}
 use lib.IntN.{pos}
@@ -29,10 +29,10 @@ use Rattle.rule_claims.proofs.Sizes.{size_claims}
 use Rattle.fault_plan.specs.Fault.{fault_after}
 use Rattle.fault_runs.specs.FaultRuns.{fault_results}
 use Rattle.fault_cases.specs.declared.cases.CasePlace.{CasePlace}
-use Rattle.fault_cases.specs.Cases.{types, tenths_of, cases_of, fault_type, type_number, place_of, ten, fault_in, fault_of}
+use Rattle.fault_cases.specs.Cases.{types, tenths_of, cases_of, place_of, ten, fault_in, fault_of}
 use Rattle.case_listing.specs.Listing.{outcome_after}
 use Rattle.case_listing.specs.Claims.{Precedes, Tried, number_at, Shares, CaseOrderClaims}
-use Rattle.fault_cases.proofs.Numbers.{tenths_few, tenth_few, numbered, typed}
+use Rattle.fault_cases.proofs.Numbers.{tenths_few, tenth_few}
 use Rattle.case_listing.proofs.Places.{larger, thirds, number_back, number_falls, number_below}
 
 not_not : (b : Bool) → not (not b) ≡ true → b ≡ true
@@ -45,37 +45,32 @@ module _ (o : SweepOrder) where
   some : 0 < tenths_of o
   some = omega (arith, (tenths_few o).0)
 
-  -- the number of a case's type
-  number_of : (k : ℕ) → type_number (fault_type (k / tenths_of o % types)) ≡ k / tenths_of o % types
-  number_of k = numbered (k / tenths_of o % types) (mod-lt (k / tenths_of o) (omega arith))
-
   in_order : (j k : ℕ) → j < k → Precedes (place_of o j) (place_of o k)
   in_order j k h =
-      rw (thirds j (tenths_of o), thirds k (tenths_of o), number_of j, number_of k)
+      rw (thirds j (tenths_of o), thirds k (tenths_of o))
       (⊎_elim
       (λ (l : j / tenths_of o < k / tenths_of o). ⊎_elim inl (λ e. inr (e.0, inl e.1)) (larger 3 (omega arith) (j / tenths_of o) (k / tenths_of o) l))
-      (λ e. inr (ap (λ (q : ℕ). q / 3) e.0, inr (ap (λ (q : ℕ). fault_type (q % 3)) e.0, omega (arith, e.1))))
+      (λ e. inr (ap (λ (q : ℕ). q / 3) e.0, inr (ap (λ (q : ℕ). q % 3) e.0, omega (arith, e.1))))
       (larger (tenths_of o) some j k h))
 
   once : (k : ℕ) → number_at o (place_of o k) ≡ k
-  once k = rw (number_of k) (number_back (tenths_of o) o.low_tenth some k)
+  once = number_back (tenths_of o) o.low_tenth some
 
   module _ (g : DcSwitchingSimulator) where
     tried : (k : ℕ) → k < cases_of g o → Tried g o (place_of o k)
     tried k h =
         record {
           cable = (div-lt_iff_lt-mul {k = types * tenths_of o} {x = k} {y = length (cables_of g)} (omega (arith, some))).1 h;
-          type = rw (number_of k) (mod-lt (k / tenths_of o) (omega arith));
+          type = mod-lt (k / tenths_of o) (omega arith);
           low = omega arith;
           high = omega (arith, mod-lt k {m = tenths_of o} some);
         }
 
     found : (p : CasePlace) → Tried g o p → (number_at o p < cases_of g o) × (place_of o (number_at o p) ≡ p)
     found p t =
-        let y = type_number p.fault_type in
-        let e = number_falls (tenths_of o) o.low_tenth some p.cable y p.tenth t.type t.low t.high in (
-          number_below (tenths_of o) o.low_tenth some p.cable y p.tenth t.type t.low t.high (length (cables_of g)) t.cable,
-          rw (e.0, e.1, e.2, typed p.fault_type),
+        let e = number_falls (tenths_of o) o.low_tenth some p.cable p.fault_type p.tenth t.type t.low t.high in (
+          number_below (tenths_of o) o.low_tenth some p.cable p.fault_type p.tenth t.type t.low t.high (length (cables_of g)) t.cable,
+          rw (e.0, e.1, e.2),
         )
 
 -- ---- accepted faults

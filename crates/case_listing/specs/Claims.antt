@@ -10,26 +10,25 @@ use Rattle.runs.specs.declared.result.DcTransientResult.{DcTransientResult}
 use Rattle.fault_runs.specs.FaultRuns.{fault_results}
 use Rattle.fault_cases.specs.declared.cases.CasePlace.{CasePlace}
 use Rattle.case_reasons.specs.declared.reasons.CaseOutcome.{CaseOutcome}
-use Rattle.fault_cases.specs.Cases.{types, tenths_of, cases_of, type_number, place_of, fault_of}
+use Rattle.fault_cases.specs.Cases.{types, tenths_of, cases_of, place_of, fault_of}
 use Rattle.case_listing.specs.Listing.{outcome_after}
 
 -- "cable ascending, then type, then tenth ascending"
 abbrev pub Precedes : CasePlace → CasePlace → Type 0
 Precedes p q =
     (p.cable < q.cable)
-    ⊎ ((p.cable ≡ q.cable)
-    × ((type_number p.fault_type < type_number q.fault_type) ⊎ ((p.fault_type ≡ q.fault_type) × (p.tenth < q.tenth))))
+    ⊎ ((p.cable ≡ q.cable) × ((p.fault_type < q.fault_type) ⊎ ((p.fault_type ≡ q.fault_type) × (p.tenth < q.tenth))))
 
 -- a place that an order tries on a grid
 pub record Tried (g : DcSwitchingSimulator) (o : SweepOrder) (p : CasePlace) : Type 0 where
   pub cable : p.cable < length (cables_of g)
-  pub type : type_number p.fault_type < types
+  pub type : p.fault_type < types
   pub low : o.low_tenth ≤ p.tenth
   pub high : p.tenth < o.low_tenth + tenths_of o
 
 -- the number of the case at a place
 abbrev pub number_at : SweepOrder → CasePlace → ℕ
-number_at o p = (p.cable * types + type_number p.fault_type) * tenths_of o + (p.tenth - o.low_tenth)
+number_at o p = (p.cable * types + p.fault_type) * tenths_of o + (p.tenth - o.low_tenth)
 
 -- what an outcome shares with the results of a fault run
 pub record Shares (x : CaseOutcome) (r : DcTransientResult) : Type 0 where

@@ -49,18 +49,18 @@ grid =
       duration_ms = nought;
     }
 
-place : (cable : ℕ) (type : DcFaultType) (tenth : ℕ) → CasePlace
+place : (cable type tenth : ℕ) → CasePlace
 place c y z = record { cable = c; fault_type = y; tenth = z }
 
 -- the last number of a tenth, a type and a cable, and what follows them
 places_are
     : (cases_of grid (order 2 4) ≡ 18)
-    × (place_of (order 2 4) 0 ≡ place 0 PoleToGround 2)
-    × (place_of (order 2 4) 2 ≡ place 0 PoleToGround 4)
-    × (place_of (order 2 4) 3 ≡ place 0 PoleToPole 2)
-    × (place_of (order 2 4) 8 ≡ place 0 ConverterInternal 4)
-    × (place_of (order 2 4) 9 ≡ place 1 PoleToGround 2)
-    × (place_of (order 2 4) 17 ≡ place 1 ConverterInternal 4)
+    × (place_of (order 2 4) 0 ≡ place 0 0 2)
+    × (place_of (order 2 4) 2 ≡ place 0 0 4)
+    × (place_of (order 2 4) 3 ≡ place 0 1 2)
+    × (place_of (order 2 4) 8 ≡ place 0 2 4)
+    × (place_of (order 2 4) 9 ≡ place 1 0 2)
+    × (place_of (order 2 4) 17 ≡ place 1 2 4)
 unfolding order grid place
 places_are = (refl, refl, refl, refl, refl, refl, refl)
 
@@ -113,9 +113,9 @@ ends_are = (refl, refl)
 
 -- the bits of a NaN peak, and of 1, 2 and 3; no current where the fault is not cleared, and no row where there are no reasons
 rows_are
-    : (row_of (place 4 ConverterInternal 7) 14 (outcome true (whole 1) (whole 2) false) (whole 3) ≡ some (4 ∷ 2 ∷ 7 ∷ 14 ∷ 0x7ff8_0000_0000_0000 ∷ 0x3ff0_0000_0000_0000 ∷ 0x4000_0000_0000_0000 ∷ 0x4008_0000_0000_0000 ∷ []))
-    × (row_of (place 4 ConverterInternal 7) 1 (outcome false (whole 1) (whole 2) true) (whole 3) ≡ some (4 ∷ 2 ∷ 7 ∷ 1 ∷ 0x7ff8_0000_0000_0000 ∷ 0 ∷ 0x4000_0000_0000_0000 ∷ 0x4008_0000_0000_0000 ∷ []))
-    × (row_of (place 4 ConverterInternal 7) 0 (outcome true (whole 1) (whole 2) true) (whole 3) ≡ none)
+    : (row_of (place 4 2 7) 14 (outcome true (whole 1) (whole 2) false) (whole 3) ≡ some (4 ∷ 2 ∷ 7 ∷ 14 ∷ 0x7ff8_0000_0000_0000 ∷ 0x3ff0_0000_0000_0000 ∷ 0x4000_0000_0000_0000 ∷ 0x4008_0000_0000_0000 ∷ []))
+    × (row_of (place 4 2 7) 1 (outcome false (whole 1) (whole 2) true) (whole 3) ≡ some (4 ∷ 2 ∷ 7 ∷ 1 ∷ 0x7ff8_0000_0000_0000 ∷ 0 ∷ 0x4000_0000_0000_0000 ∷ 0x4008_0000_0000_0000 ∷ []))
+    × (row_of (place 4 2 7) 0 (outcome true (whole 1) (whole 2) true) (whole 3) ≡ none)
 unfolding row_of outcome place whole bits_of is_nan to_bits of_bits round size
 rows_are = (refl, refl, refl)
 

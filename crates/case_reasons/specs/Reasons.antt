@@ -10,7 +10,6 @@ use Rattle.grid.specs.declared.parts.DcCable.{DcCable}
 use Rattle.grid.specs.declared.parts.DcBreaker.{DcBreaker}
 use Rattle.grid.specs.declared.simulator.DcSwitchingSimulator.{DcSwitchingSimulator}
 use Rattle.fault_cases.specs.declared.cases.CasePlace.{CasePlace}
-use Rattle.fault_cases.specs.Cases.{type_number}
 use Rattle.case_reasons.specs.declared.reasons.CaseOutcome.{CaseOutcome}
 use Rattle.case_reasons.specs.declared.reasons.Limit.{Limit}
 use Rattle.case_reasons.specs.declared.reasons.Limit.TheVariants.{BreakingCurrent, Energy}
@@ -61,7 +60,7 @@ current_shown x = cond x.cleared x.clearing_current_ka nought
 abbrev pub numbers_of : CasePlace → (reasons : ℕ) → CaseOutcome → (loss : Float) → List ℕ
 numbers_of p reasons x loss =
     p.cable ∷
-    type_number p.fault_type ∷
+    p.fault_type ∷
     p.tenth ∷
     reasons ∷
     bits_of x.peak_fault_ka ∷

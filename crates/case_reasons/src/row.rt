@@ -4,7 +4,7 @@ ghost use Rattle.std.proofs.lemmas.List.Edits.{sets};
 ghost use Rattle.case_reasons.specs.Reasons.{writes_row, numbers_of, current_shown};
 
 use crate::reasons::CaseOutcome;
-use fault_cases::{CasePlace, type_number};
+use fault_cases::CasePlace;
 use float64::to_bits;
 
 // The numbers of a row.
@@ -50,7 +50,7 @@ fn row_numbers(row: CaseRow) -> [u64; ROW_LENGTH]
     let outcome = row.outcome;
     [
         place.cable,
-        type_number(place.fault_type),
+        place.fault_type,
         place.tenth,
         row.reasons,
         to_bits(outcome.peak_fault_ka),

@@ -28,7 +28,7 @@ use Rattle.fault_plan.specs.declared.plan.FaultPlan.{FaultPlan}
 use Rattle.fault_plan.specs.Fault.{before_loop}
 use Rattle.fault_plan.specs.Plans.{constants_of, plan_of}
 use Rattle.fault_cases.specs.declared.cases.CasePlace.{CasePlace}
-use Rattle.fault_cases.specs.Cases.{place_of, fault_in, fault_of}
+use Rattle.fault_cases.specs.Cases.{place_of, fault_type, fault_in, fault_of}
 use Rattle.case_steps.specs.declared.open_case.OpenCase.{OpenCase}
 use Rattle.case_steps.specs.OpenCases.{start_case, outcome_in, case_from}
 use Rattle.case_steps.specs.Plans.{plan_case_from}
@@ -87,7 +87,7 @@ module _ (g : DcSwitchingSimulator) (o : SweepOrder) where
 
   -- ---- a case of a cable that is held
 
-  type_is : (cable : ℕ) (type : DcFaultType) (tenth : ℕ) → of_type (plan_at x (record { cable = cable; fault_type = PoleToGround; tenth = tenth })) type ≡ plan_at x (record { cable = cable; fault_type = type; tenth = tenth })
+  type_is : (cable type tenth : ℕ) → of_type (plan_at x (record { cable = cable; fault_type = 0; tenth = tenth })) (fault_type type) ≡ plan_at x (record { cable = cable; fault_type = type; tenth = tenth })
   unfolding constants_of fault_in circuit_at drain_of parameters_at
   type_is cable type tenth = refl
 
@@ -98,11 +98,11 @@ module _ (g : DcSwitchingSimulator) (o : SweepOrder) where
   in_site_is p c ConverterInternal = refl
 
   -- of a type at a tenth that is tried
-  held_is : (cable : ℕ) (type : DcFaultType) (tenth : ℕ) → tried o tenth ≡ true → in_site (site_at x cable tenth) type ≡ end_for x (record { cable = cable; fault_type = type; tenth = tenth }) 0 (start_case g)
+  held_is : (cable type tenth : ℕ) → tried o tenth ≡ true → in_site (site_at x cable tenth) (fault_type type) ≡ end_for x (record { cable = cable; fault_type = type; tenth = tenth }) 0 (start_case g)
   unfolding site_at common_of before_loop
   held_is cable type tenth e =
       rw e
-      (in_site_is (plan_at x (record { cable = cable; fault_type = PoleToGround; tenth = tenth })) (start_case g) type
+      (in_site_is (plan_at x (record { cable = cable; fault_type = 0; tenth = tenth })) (start_case g) (fault_type type)
       ∙ ap (λ (p : FaultPlan). end_by p 0 x.window (start_case g)) (type_is cable type tenth))
 
   -- ---- what a call takes
@@ -112,7 +112,7 @@ module _ (g : DcSwitchingSimulator) (o : SweepOrder) where
     place = place_of o k
 
     looked_up_lem : (ends : CableEnds) → ends ≡ cable_of x ends.cable → (fresh && eqb ends.cable place.cable && tried o place.tenth) ≡ true
-        → in_site (get_or ends.sites place.tenth blank_site) place.fault_type ≡ end_for x place made c
+        → in_site (get_or ends.sites place.tenth blank_site) (fault_type place.fault_type) ≡ end_for x place made c
     looked_up_lem ends h e =
         let a = left (fresh && eqb ends.cable place.cable) (tried o place.tenth) e in
         let in_order = right (fresh && eqb ends.cable place.cable) (tried o place.tenth) e in
@@ -121,7 +121,7 @@ module _ (g : DcSwitchingSimulator) (o : SweepOrder) where
         let few = leb-true place.tenth 10 (right (leb o.low_tenth place.tenth && leb place.tenth o.high_tenth) (leb place.tenth 10) in_order) in
         let sites : ends.sites ≡ tab 11 (site_at x place.cable) = ap (λ (y : CableEnds). y.sites) h ∙ ap (λ (n : ℕ). tab 11 (site_at x n)) same in
         rw (sites, is-fresh.0, is-fresh.1)
-        (ap (λ (y : SiteEnds). in_site y place.fault_type) (get_d_tab 11 (site_at x place.cable) blank_site place.tenth (omega arith))
+        (ap (λ (y : SiteEnds). in_site y (fault_type place.fault_type)) (get_d_tab 11 (site_at x place.cable) blank_site place.tenth (omega arith))
         ∙ held_is place.cable place.fault_type place.tenth in_order)
 
     taken : (ends : Option CableEnds) → Holding ends → closed_by x ends fresh k made c ≡ end_for x place made c

@@ -5,7 +5,6 @@ use mathlib.Core.Bool.{Bool, true, false}
 use Rattle.std.specs.Prelude.{Option, Some, None}
 use Rattle.lists.specs.Tables.{tab}
 use Rattle.float64.specs.Constants.{nought, decimal}
-use Rattle.grid.specs.declared.parts.DcFaultType.TheVariants.{PoleToGround, PoleToPole, ConverterInternal}
 use Rattle.grid.specs.declared.parts.SweepOrder.{SweepOrder}
 use Rattle.grid.specs.declared.simulator.DcSwitchingSimulator.{DcSwitchingSimulator}
 use Rattle.fault_plan.specs.declared.plan.FaultConstants.{FaultConstants}
@@ -46,10 +45,10 @@ module _ (g : DcSwitchingSimulator) (closes : Bool) (made : ℕ) (c : OpenCase) 
 
   -- the last case of the cable before, the first of the one after, a case that is not fresh, and one where nothing is held
   worked-out
-      : (closed_by (common_of g order closes) second true 14 made c ≡ end_for (common_of g order closes) (record { cable = 0; fault_type = ConverterInternal; tenth = 6 }) made c)
-      × (closed_by (common_of g order closes) second true 30 made c ≡ end_for (common_of g order closes) (record { cable = 2; fault_type = PoleToGround; tenth = 2 }) made c)
-      × (closed_by (common_of g order closes) second false 23 made c ≡ end_for (common_of g order closes) (record { cable = 1; fault_type = PoleToPole; tenth = 5 }) made c)
-      × (closed_by (common_of g order closes) None true 23 made c ≡ end_for (common_of g order closes) (record { cable = 1; fault_type = PoleToPole; tenth = 5 }) made c)
+      : (closed_by (common_of g order closes) second true 14 made c ≡ end_for (common_of g order closes) (record { cable = 0; fault_type = 2; tenth = 6 }) made c)
+      × (closed_by (common_of g order closes) second true 30 made c ≡ end_for (common_of g order closes) (record { cable = 2; fault_type = 0; tenth = 2 }) made c)
+      × (closed_by (common_of g order closes) second false 23 made c ≡ end_for (common_of g order closes) (record { cable = 1; fault_type = 1; tenth = 5 }) made c)
+      × (closed_by (common_of g order closes) None true 23 made c ≡ end_for (common_of g order closes) (record { cable = 1; fault_type = 1; tenth = 5 }) made c)
   unfolding closed_by common_of order second
   worked-out = (refl, refl, refl, refl)
 

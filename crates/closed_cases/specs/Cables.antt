@@ -10,7 +10,7 @@ use Rattle.fault_plan.specs.declared.plan.FaultConstants.{FaultConstants}
 use Rattle.fault_window.specs.declared.steps.Window.{Window}
 use Rattle.fault_window.specs.Window.{window_of}
 use Rattle.fault_cases.specs.declared.cases.CasePlace.{CasePlace}
-use Rattle.fault_cases.specs.Cases.{tenths_of, types, type_number, place_of}
+use Rattle.fault_cases.specs.Cases.{tenths_of, types, fault_type, place_of}
 use Rattle.case_reasons.specs.declared.reasons.CaseOutcome.{CaseOutcome}
 use Rattle.case_steps.specs.declared.open_case.OpenCase.{OpenCase}
 use Rattle.case_steps.specs.OpenCases.{start_case}
@@ -49,7 +49,7 @@ tried o tenth = leb o.low_tenth tenth && leb tenth o.high_tenth && leb tenth 10
 unfoldable pub site_at : Common → (cable tenth : ℕ) → SiteEnds
 site_at x cable tenth =
     cond (tried x.order tenth)
-    (site_of (plan_at x (record { cable = cable; fault_type = PoleToGround; tenth = tenth })) x.window (start_case x.grid))
+    (site_of (plan_at x (record { cable = cable; fault_type = 0; tenth = tenth })) x.window (start_case x.grid))
     blank_site
 
 -- no cable is held
@@ -68,7 +68,7 @@ in_site s ConverterInternal = s.internal
 -- the first case of a cable, and steps and room for all of them
 abbrev pub whole_cable : SweepOrder → CasePlace → (steps allowed room : ℕ) → Bool
 whole_cable o place steps allowed room =
-    eqb (type_number place.fault_type) 0
+    eqb place.fault_type 0
     && eqb place.tenth o.low_tenth
     && leb steps (allowed / (types * tenths_of o))
     && leb (types * tenths_of o) room
@@ -85,5 +85,5 @@ closed_by x None fresh k made c = end_for x (place_of x.order k) made c
 closed_by x (Some ends) fresh k made c =
     let place = place_of x.order k in
     cond (fresh && eqb ends.cable place.cable && tried x.order place.tenth)
-    (in_site (get_or ends.sites place.tenth blank_site) place.fault_type)
+    (in_site (get_or ends.sites place.tenth blank_site) (fault_type place.fault_type))
     (end_for x place made c)

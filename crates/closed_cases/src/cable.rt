@@ -5,7 +5,7 @@ ghost use Rattle.closed_cases.specs.Cables.{blank_site, tried, site_at, no_cable
 use case_ends::{SiteEnds, site_ends};
 use case_reasons::CaseOutcome;
 use fault_cases::{CasePlace, FAULT_TYPES, MOST_TENTHS, case_place, tenth_count};
-use grid::{DcFaultType, SweepOrder};
+use grid::SweepOrder;
 use sweep_cases::{Common, plan_at};
 
 // Tenths 0 to 10.
@@ -49,8 +49,7 @@ fn closes_cable(
     ensures { result ≡ whole_cable order place n_steps allowed room }
 {
     let cases = FAULT_TYPES * tenth_count(order);
-    let is_ground = matches!(place.fault_type, DcFaultType::PoleToGround);
-    let is_first = is_ground & (place.tenth == order.low_tenth);
+    let is_first = (place.fault_type == 0) & (place.tenth == order.low_tenth);
     is_first & (n_steps <= allowed / cases) & (cases <= room as u64)
 }
 
@@ -84,7 +83,7 @@ fn site_at(common: Common, cable: u64, tenth: u64) -> SiteEnds
         let window = common.window;
         let place = CasePlace {
             cable,
-            fault_type: DcFaultType::PoleToGround,
+            fault_type: 0,
             tenth,
         };
         return site_ends(g, plan_at(common, place), window);

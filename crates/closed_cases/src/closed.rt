@@ -6,7 +6,7 @@ use crate::cable::{CableEnds, is_tried};
 use case_ends::{SiteEnds, case_end};
 use case_reasons::CaseOutcome;
 use case_steps::OpenCase;
-use fault_cases::{CasePlace, case_place};
+use fault_cases::{CasePlace, case_place, type_of};
 use fault_plan::FaultConstants;
 use fault_window::{FaultTimes, Window, fault_window};
 use grid::DcFaultType;
@@ -35,7 +35,7 @@ pub fn closed_outcome(common: Common, ends: Option<CableEnds>, case: CaseToClose
         if case.fresh & (held.cable == place.cable) & is_tried(order, place.tenth) {
             let sites = held.sites;
             let tenth = place.tenth as usize;
-            return in_site(sites[tenth], place.fault_type);
+            return in_site(sites[tenth], type_of(place.fault_type));
         }
     }
     end_for(common, place, case.made, case.kept)

@@ -14,6 +14,8 @@ use Rattle.fault_cases.specs.contracts.cases.tenth_count as tenth-count-contract
 use Rattle.fault_cases.proofs.cases.tenth_count.Reads as tenth-count-reads
 use Rattle.fault_cases.specs.contracts.cases.type_number as type-number-contract
 use Rattle.fault_cases.proofs.cases.type_number.Reads as type-number-reads
+use Rattle.fault_cases.specs.contracts.cases.type_of as type-of-contract
+use Rattle.fault_cases.proofs.cases.type_of.Reads as type-of-reads
 
 module _ (κs : Lfts 0) where
   pub case_count_any : (a : ArgsD case-count-contract.signature κs) → case-count-reads.Asked κs a
@@ -33,3 +35,6 @@ module _ (κs : Lfts 0) where
 
   pub type_number_any : (a : ArgsD type-number-contract.signature κs) → type-number-reads.Asked κs a
   type_number_any a = tt
+
+  pub type_of_any : (a : ArgsD type-of-contract.signature κs) → type-of-reads.Asked κs a
+  type_of_any a = tt

@@ -39,8 +39,7 @@ type_number ConverterInternal = 2
 
 -- the case of a number: the tenth moves first, then the type, then the cable
 abbrev pub place_of : SweepOrder → ℕ → CasePlace
-place_of o k =
-    record { cable = k / (types * tenths_of o); fault_type = fault_type (k / tenths_of o % types); tenth = o.low_tenth + k % tenths_of o }
+place_of o k = record { cable = k / (types * tenths_of o); fault_type = k / tenths_of o % types; tenth = o.low_tenth + k % tenths_of o }
 
 abbrev pub ten : Float
 ten = of_bits binary64 0x4024_0000_0000_0000
@@ -53,7 +52,7 @@ ten_is = refl
 unfoldable pub fault_in : SweepOrder → CasePlace → DcFaultEvent
 fault_in o p =
     record {
-      fault_type = p.fault_type;
+      fault_type = fault_type p.fault_type;
       location_cable_id = p.cable;
       location_fraction = of_int binary64 (pos p.tenth) ⊘ ten;
       fault_resistance = o.fault_resistance;

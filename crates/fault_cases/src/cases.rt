@@ -15,7 +15,8 @@ pub const MOST_TENTHS: u64 = 10;
 pub struct CasePlace {
     // The cable's position.
     pub cable: u64,
-    pub fault_type: DcFaultType,
+    // 0 pole to ground, 1 pole to pole, 2 internal, and so every number past 2.
+    pub fault_type: u64,
     // Tenths of the cable from its first end.
     pub tenth: u64,
 }
@@ -43,12 +44,10 @@ pub fn case_place(o: SweepOrder, number: u64) -> CasePlace
     ensures { result ≡ place_of o number }
 {
     let tenths = tenth_count(o);
-    let of_type = number / tenths % FAULT_TYPES;
-    let tenth = o.low_tenth + number % tenths;
     CasePlace {
         cable: number / (FAULT_TYPES * tenths),
-        fault_type: fault_type(of_type).unwrap(),
-        tenth,
+        fault_type: number / tenths % FAULT_TYPES,
+        tenth: o.low_tenth + number % tenths,
     }
 }
 
@@ -58,7 +57,7 @@ pub fn fault_at(o: SweepOrder, place: CasePlace) -> DcFaultEvent
     ensures { result ≡ fault_in o place }
 {
     DcFaultEvent {
-        fault_type: place.fault_type,
+        fault_type: type_of(place.fault_type),
         location_cable_id: place.cable,
         location_fraction: nearest_u64_to_f64(place.tenth) / 10.0,
         fault_resistance: o.fault_resistance,
@@ -76,6 +75,13 @@ pub fn type_number(fault_type: DcFaultType) -> u64
         DcFaultType::PoleToPole => 1,
         DcFaultType::ConverterInternal => 2,
     }
+}
+
+// The type of a place's number: internal for every one past those of the other two.
+pub fn type_of(number: u64) -> DcFaultType
+    ensures { result ≡ fault_type number }
+{
+    fault_type(number).unwrap_or(DcFaultType::ConverterInternal)
 }
 
 // The type of a number; None where there is no such type.

@@ -5,5 +5,5 @@ mod cases;
 
 pub use cases::{
     CasePlace, FAULT_TYPES, MOST_TENTHS, case_count, case_place, fault_at, fault_type, tenth_count,
-    type_number,
+    type_number, type_of,
 };
