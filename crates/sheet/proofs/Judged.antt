@@ -19,9 +19,9 @@ use Rattle.rule_tests.specs.Rules.{station_outside, cable_outside, breaker_outsi
 use Rattle.sheet_lines.specs.declared.line.SheetLine.{SheetLine}
 use Rattle.sheet_lines.specs.declared.line.SheetLine.TheVariants.{Times, Order, Station, Cable, Breaker}
 use Rattle.line_order.specs.Ordered.{no_place, place_of, in_order, line_refusal}
-use Rattle.whole_sheets.specs.Sheets.{Refusal, SheetAnswer, most_lines, refused, none, form_refusal, stations_in, cables_in, breakers_in, order_in, grid_in, bad_station, bad_cable, bad_breaker, first_bad, sheet_broken, shown_at, refusal_of, answered}
+use Rattle.whole_sheets.specs.Sheets.{Refusal, SheetAnswer, most_lines, refused, none, fault_in, form_refusal, stations_in, cables_in, breakers_in, order_in, grid_in, bad_station, bad_cable, bad_breaker, first_bad, sheet_broken, shown_at, refusal_of, answered}
 use Rattle.sheet_parts.specs.Parts.{counted_on}
-use Rattle.taken_lines.specs.Taken.{fault_of, fault_in, empty_sheet, stopped_at, contents_with, refused_by, with_line}
+use Rattle.taken_lines.specs.Taken.{fault_of, empty_sheet, stopped_at, contents_with, refused_by, with_line}
 use Rattle.sheet_answers.specs.Answers.{rule_broken, rule_refusal, rule_line, refusal_in}
 use Rattle.taken_lines.specs.declared.taken.Sheet.{Sheet}
 use Rattle.sheet.proofs.Laid.{every-laid}
@@ -174,7 +174,7 @@ refused_stops : (s : Sheet) (r : ℕ) → (r ≡ 0 → ⊥) → stopped_at (refu
 unfolding stopped_at
 refused_stops s r h = rw (ne_eqb r 0 h)
 
--- a fault's number is 12 or 13
+-- a line's fault has the number 12 or 13
 line_known : (k before place : ℕ) → fault_in (fault_of (line_refusal k before place)) ≡ line_refusal k before place
 unfolding line_refusal
 line_known k before place = go (eqb place no_place) (in_order k before place)

@@ -6,4 +6,4 @@ mod read;
 pub use read::read_sheet;
 pub use sheet_answers::answer;
 pub use sheet_bytes::{Reading, feed, start, stopped};
-pub use whole_sheets::{SheetContents, SheetFault, SheetRefusal};
+pub use whole_sheets::{OtherNumber, SheetContents, SheetFault, SheetRefusal};

@@ -15,19 +15,17 @@ use Rattle.sheet_bytes.specs.Bytes.{ended_of}
 use Rattle.sheet_bytes.specs.declared.bytes.Reading.{Reading}
 use borrow.Author.Tests.{ne_eqb, lt-ltb, le-ltb}
 use Rattle.std.proofs.Common.{Some, None, Err}
-use Rattle.line_order.specs.Ordered.{fault_number}
-use Rattle.line_order.specs.declared.order.LineFault.{LineFault}
-use Rattle.line_order.specs.declared.order.LineFault.TheVariants.{WrongForm, WrongOrder}
-use Rattle.whole_sheets.specs.Sheets.{Refusal, SheetAnswer, refused, none, no_order, answered, contents_of}
+use Rattle.whole_sheets.specs.Sheets.{Refusal, SheetAnswer, refused, none, fault_number, no_order, answered, contents_of}
+use Rattle.whole_sheets.specs.declared.answers.SheetFault.{SheetFault}
+use Rattle.whole_sheets.proofs.Printed.{never_0}
 use Rattle.sheet_parts.specs.Parts.{counted_on}
 use Rattle.sheet_answers.specs.Answers.{rule_refusal, rule_line, refusal_in, answer_of}
 use Rattle.taken_lines.specs.declared.taken.Sheet.{Sheet}
 
 module _ (s : Sheet) (n : ℕ) where
-  pub line_refused : (f : LineFault) → s.fault ≡ Some f → n ≡ counted_on s.lines → refused (fault_number f) n ≡ refusal_in s
+  pub line_refused : (f : SheetFault) → s.fault ≡ Some f → n ≡ counted_on s.lines → refused (fault_number f) n ≡ refusal_in s
   unfolding refusal_in
-  line_refused WrongForm h e = rw (h, e)
-  line_refused WrongOrder h e = rw (h, e)
+  line_refused f h e = rw (h, ne_eqb (fault_number f) 0 (never_0 f), e)
 
   pub line_missing : s.fault ≡ None → s.lines < 2 → n ≡ counted_on s.lines → refused 13 n ≡ refusal_in s
   unfolding refusal_in

@@ -2,12 +2,11 @@
 use Rattle.std.specs.Prelude.{ℕ, Bool, false, not, ◌||◌, cond, eqb, ltb}
 use Rattle.part_checks.specs.PartChecks.{order_ok}
 use Rattle.rules.specs.Studies.{broken, first, fault_order}
-use Rattle.whole_sheets.specs.Sheets.{Refusal, SheetAnswer, refused, answered}
+use Rattle.whole_sheets.specs.Sheets.{Refusal, SheetAnswer, refused, fault_in, answered}
 use Rattle.sheet_parts.specs.Parts.{counted_on}
 use Rattle.sheet_bytes.specs.Bytes.{ended_of}
 use Rattle.taken_lines.specs.declared.taken.Sheet.{Sheet}
 use Rattle.sheet_bytes.specs.declared.bytes.Reading.{Reading}
-use Rattle.taken_lines.specs.Taken.{fault_in}
 
 -- the rules that the grid and the order show, or one of 6, 7 and 8 that a line shows
 unfoldable pub rule_broken : Sheet → ℕ → Bool

@@ -81,17 +81,14 @@ fn is_rule(shown: Result<(), Refusal>, rule: Refusal) -> bool
     }
 }
 
-// Ok where nothing is refused, else the refusal: a refused line first, then one that is missing, then the rules.
+// Ok where nothing is refused, else the refusal: a fault that is kept first, by its own number, then a line that is missing, then the rules.
 #[tactic(auto, unfolding(crate::specs::Answers::refusal_in, rules::specs::Studies::number_of))]
 fn check_sheet(s: Sheet) -> Result<(), SheetRefusal>
     ensures { printed_of result ≡ refusal_in s }
 {
     let next = counted_on(s.lines) as u64;
     if let Some(fault) = s.fault {
-        return Err(SheetRefusal {
-            fault: SheetFault::Line(fault),
-            line: next,
-        });
+        return Err(SheetRefusal { fault, line: next });
     }
     if s.lines < 2 {
         return Err(SheetRefusal {

@@ -9,13 +9,14 @@ use Rattle.std.proofs.Common.{Some}
 use Rattle.line_order.specs.Ordered.{place_of, line_refusal, fault_number}
 use Rattle.line_order.specs.declared.order.LineFault.{LineFault}
 use Rattle.line_order.specs.declared.order.LineFault.TheVariants.{WrongForm, WrongOrder}
+use Rattle.whole_sheets.specs.declared.answers.SheetFault.TheVariants.{Line}
 use Rattle.sheet_parts.specs.Parts.{counted_on}
 use Rattle.taken_lines.specs.Taken.{stopped_at, contents_with, moved_on, refused_by, with_line}
 use Rattle.taken_lines.specs.declared.taken.Sheet.{Sheet}
 
 abbrev with_fault : Sheet → LineFault → Sheet
 with_fault s f =
-    record { grid = s.grid; order = s.order; lines = s.lines; last = s.last; bad_station = s.bad_station; bad_cable = s.bad_cable; bad_breaker = s.bad_breaker; fault = Some f }
+    record { grid = s.grid; order = s.order; lines = s.lines; last = s.last; bad_station = s.bad_station; bad_cable = s.bad_cable; bad_breaker = s.bad_breaker; fault = Some (Line f) }
 
 module _ (s : Sheet) (l : Option SheetLine) where
   pub stopped_way : stopped_at s ≡ true → s ≡ with_line s l

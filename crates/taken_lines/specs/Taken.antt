@@ -7,10 +7,11 @@ use Rattle.grid.specs.declared.parts.SweepOrder.{SweepOrder}
 use Rattle.grid.specs.declared.simulator.DcSwitchingSimulator.{DcSwitchingSimulator}
 use Rattle.sheet_lines.specs.declared.line.SheetLine.{SheetLine}
 use Rattle.sheet_lines.specs.declared.line.SheetLine.TheVariants.{Times, Order, Station, Cable, Breaker}
-use Rattle.line_order.specs.Ordered.{place_of, line_refusal, fault_number}
-use Rattle.line_order.specs.declared.order.LineFault.{LineFault}
+use Rattle.line_order.specs.Ordered.{place_of, line_refusal}
 use Rattle.line_order.specs.declared.order.LineFault.TheVariants.{WrongForm, WrongOrder}
 use Rattle.whole_sheets.specs.Sheets.{most_lines, no_order}
+use Rattle.whole_sheets.specs.declared.answers.SheetFault.{SheetFault}
+use Rattle.whole_sheets.specs.declared.answers.SheetFault.TheVariants.{Line}
 use Rattle.taken_lines.specs.declared.taken.Sheet.{Sheet}
 use Rattle.sheet_parts.specs.Parts.{counted_on, station_taken, cable_taken, breaker_taken}
 
@@ -22,12 +23,8 @@ empty_sheet =
     record { grid = new_simulator nought nought; order = no_order; lines = 0; last = 0; bad_station = 0; bad_cable = 0; bad_breaker = 0; fault = None }
 
 -- why a line is refused, of 01's number and by it; 0 is no refusal
-abbrev pub fault_of : ℕ → Option LineFault
-fault_of number = cond (eqb number 0) None (Some (cond (eqb number 12) WrongForm WrongOrder))
-
-abbrev pub fault_in : Option LineFault → ℕ
-fault_in None = 0
-fault_in (Some f) = fault_number f
+abbrev pub fault_of : ℕ → Option SheetFault
+fault_of number = cond (eqb number 0) None (Some (Line (cond (eqb number 12) WrongForm WrongOrder)))
 
 -- a line is refused, or their number has come to its end
 unfoldable pub stopped_at : Sheet → Bool

@@ -3,9 +3,10 @@ ghost use Rattle.std.specs.Prelude.{◌≡◌};
 ghost use Rattle.taken_lines.specs.Taken.{first_of, stopped_at, contents_with, with_line, empty_sheet};
 
 use grid::{DcSwitchingSimulator, SweepOrder};
-use line_order::{LineFault, check_line, place_of};
+use line_order::{check_line, place_of};
 use sheet_lines::SheetLine;
 use sheet_parts::{MOST_LINES, counted_on, with_breaker, with_cable, with_station};
+use whole_sheets::SheetFault;
 
 // What the lines taken so far say.
 #[derive(Clone, Copy)]
@@ -19,8 +20,8 @@ pub struct Sheet {
     pub bad_station: usize,
     pub bad_cable: usize,
     pub bad_breaker: usize,
-    // why the line behind these is refused, once it is
-    pub fault: Option<LineFault>,
+    // why the line behind these is refused, once it is: by 12 or 13, or by whatever else a caller puts here
+    pub fault: Option<SheetFault>,
 }
 
 // A sheet of which no line is read.
@@ -117,7 +118,7 @@ pub fn with_line(s: Sheet, line: Option<SheetLine>) -> Sheet
             ..contents_with(s, line)
         },
         Err(fault) => Sheet {
-            fault: Some(fault),
+            fault: Some(SheetFault::Line(fault)),
             ..s
         },
     }

@@ -17,7 +17,7 @@ use Rattle.line_order.specs.Ordered as ordered
 use Rattle.rules.specs.Studies.{rule_number}
 use Rattle.whole_sheets.specs.declared.answers.SheetContents.{SheetContents}
 use Rattle.whole_sheets.specs.declared.answers.SheetFault.{SheetFault}
-use Rattle.whole_sheets.specs.declared.answers.SheetFault.TheVariants.{Line, Rule}
+use Rattle.whole_sheets.specs.declared.answers.SheetFault.TheVariants.{Line, Rule, Other}
 use Rattle.whole_sheets.specs.declared.answers.SheetRefusal.{SheetRefusal}
 
 -- ---- the lines of a text
@@ -211,6 +211,12 @@ sheet_answer text = answered (refusal_of (said text)) (grid_in (said text)) (ord
 abbrev pub fault_number : SheetFault → ℕ
 fault_number (Line f) = ordered.fault_number f
 fault_number (Rule r) = rule_number r
+fault_number (Other n) = n.number
+
+-- and of what may be one, 0 for none
+abbrev pub fault_in : Option SheetFault → ℕ
+fault_in None = 0
+fault_in (Some f) = fault_number f
 
 -- what X prints of a result; nothing is printed of what is not refused
 abbrev pub printed_of : {A : Type 0} → Result A SheetRefusal → Refusal

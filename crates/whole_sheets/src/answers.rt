@@ -1,7 +1,8 @@
 // What a sheet is answered by: its grid and its order, or why it is refused.
 ghost use Rattle.std.specs.Prelude.{◌≡◌};
-ghost use Rattle.whole_sheets.specs.Sheets.{fault_number};
+ghost use Rattle.whole_sheets.specs.Sheets.{fault_number, fault_in};
 
+use crate::other::OtherNumber;
 use grid::{DcSwitchingSimulator, SweepOrder};
 use line_order::LineFault;
 use rules::Refusal;
@@ -13,9 +14,34 @@ pub enum SheetFault {
     Line(LineFault),
     // A rule that the grid or the order breaks, or one of 6, 7 and 8 that a line breaks.
     Rule(Refusal),
+    // What has another number: no reading of a sheet gives one, but a caller can put it there.
+    Other(OtherNumber),
 }
 
 impl SheetFault {
+    // The fault that has this number, whichever it is; None at 0 alone.
+    #[tactic(auto, unfolding(rules::specs::Studies::rule_number))]
+    pub fn of(number: u64) -> Option<SheetFault>
+        ensures { fault_in result ≡ number }
+    {
+        match number {
+            0 => None,
+            1 => Some(SheetFault::Rule(Refusal::NoStation)),
+            2 => Some(SheetFault::Rule(Refusal::NoCable)),
+            3 => Some(SheetFault::Rule(Refusal::TooManyParts)),
+            4 => Some(SheetFault::Rule(Refusal::TimeOutside)),
+            5 => Some(SheetFault::Rule(Refusal::TooManySteps)),
+            6 => Some(SheetFault::Rule(Refusal::StationOutside)),
+            7 => Some(SheetFault::Rule(Refusal::CableOutside)),
+            8 => Some(SheetFault::Rule(Refusal::BreakerOutside)),
+            9 => Some(SheetFault::Rule(Refusal::EventOutside)),
+            10 => Some(SheetFault::Rule(Refusal::NotConverged)),
+            12 => Some(SheetFault::Line(LineFault::WrongForm)),
+            13 => Some(SheetFault::Line(LineFault::WrongOrder)),
+            _ => Some(SheetFault::Other(OtherNumber { number })),
+        }
+    }
+
     // 01's number.
     pub fn number(self) -> u64
         ensures { result ≡ fault_number self }
@@ -23,6 +49,7 @@ impl SheetFault {
         match self {
             SheetFault::Line(fault) => fault.number(),
             SheetFault::Rule(rule) => rule.number(),
+            SheetFault::Other(other) => other.number,
         }
     }
 }

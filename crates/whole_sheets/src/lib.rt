@@ -2,5 +2,7 @@
 #![tactic(auto)]
 
 mod answers;
+mod other;
 
 pub use answers::{SheetContents, SheetFault, SheetRefusal};
+pub use other::OtherNumber;
