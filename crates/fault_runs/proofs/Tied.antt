@@ -11,7 +11,7 @@ use Rattle.timing.specs.Steps.{most_steps}
 use Rattle.portions.specs.Calls.{Called, Made}
 use Rattle.runs.specs.Kinds.{Ready, Stepped}
 use Rattle.fault_runs.specs.declared.fault_run.FaultRun.{FaultRun}
-use Rattle.fault_runs.specs.FaultRuns.{fault_kind, FaultPlanned, fault_stepper, advanced_fault_run, fault_figures}
+use Rattle.fault_runs.specs.FaultRuns.{fault_kind, fault_run_plan, stepped_fault_run, stepped_fault_plan, FaultPlanned, fault_stepper, advanced_fault_run, fault_figures}
 use Rattle.fault_runs.specs.contracts.fault_run.FaultRun.advance as advance-contract
 use Rattle.fault_runs.proofs.fault_run.FaultRun.advance.Kinds as advance-kinds
 use Rattle.fault_runs.proofs.fault_run.FaultRun.advance.Reads as advance-reads
@@ -96,12 +96,15 @@ module _ (κs : Lfts 1) (a : ArgsD plan-contract.signature κs) (r : ResD plan-c
   pub plan_any : plan-reads.Asked κs a
   plan_any = tt
 
-  pub plan_is : plan-reads.Learnt κs a r e → fault_kind.refused a.0.now ≡ false → FaultPlanned a.0.now r × Ready a.0.now.grid a.0.now.steps_made
-  plan_is h taken = (h.0 taken, h.1 taken)
+  pub plan_is : plan-reads.Learnt κs a r e
+      → (r ≡ fault_run_plan a.0.now) × (fault_kind.refused a.0.now ≡ false → FaultPlanned a.0.now r × Ready a.0.now.grid a.0.now.steps_made)
+  plan_is h = (h.0, λ taken. (h.1.0 taken, h.1.1 taken))
 
 module _ (κs : Lfts 2) (a : ArgsD step-contract.signature κs) (r : ResD step-contract.signature κs) (e : AtExit (ended_of 2 step-kinds.ps step-kinds.r) κs) where
   pub step_any : step-reads.Asked κs a
   step_any = tt
 
-  pub step_is : step-reads.Learnt κs a r e → FaultPlanned a.0.now a.1.0.now → a.0.now.steps_made < most_steps → Stepped fault_kind FaultPlanned a.0.now e.0.now e.1.0.now
-  step_is h = h
+  pub step_is : step-reads.Learnt κs a r e
+      → (e.0.now ≡ stepped_fault_run a.0.now a.1.0.now) × (e.1.0.now ≡ stepped_fault_plan a.0.now a.1.0.now)
+      × (FaultPlanned a.0.now a.1.0.now → a.0.now.steps_made < most_steps → Stepped fault_kind FaultPlanned a.0.now e.0.now e.1.0.now)
+  step_is h = (h.0, h.1.0, h.1.1)

@@ -1,5 +1,5 @@
 -- Fault runs in portions, document 01.5. Definitions only.
-use Rattle.std.specs.Prelude.{ℕ, suc, ◌≡◌, Bool, true, not, ◌||◌, cond, List, [], ◌∷◌, eqb, ltb, length, Float}
+use Rattle.std.specs.Prelude.{ℕ, suc, ◌≡◌, Bool, true, false, not, ◌||◌, cond, List, [], ◌∷◌, eqb, ltb, length, Float}
 use Rattle.float64.specs.Constants.{nought}
 use Rattle.grid.specs.declared.parts.DcFaultType.TheVariants.{PoleToGround}
 use Rattle.grid.specs.declared.parts.DcFaultEvent.{DcFaultEvent}
@@ -9,14 +9,14 @@ use Rattle.rules.specs.Studies.{fault_refusal}
 use Rattle.portions.specs.Stopping.{Stepper, answer_of}
 use Rattle.fault_plan.specs.declared.variables.FaultVariables.{FaultVariables}
 use Rattle.fault_plan.specs.Fault.{fault_body, fresh_variables, fault_after}
-use Rattle.fault_plan.specs.Plans.{plan_step}
-use Rattle.fault_plan.specs.Quiet.{rests_by}
+use Rattle.fault_plan.specs.Plans.{plan_of, plan_step}
+use Rattle.fault_plan.specs.Quiet.{rests_by, quiet_step}
 use Rattle.fault_runs.specs.declared.fault_run.FaultRun.{FaultRun}
 use Rattle.fault_runs.specs.declared.fault_run.FaultSteps.{FaultSteps}
 use Rattle.records.specs.Records.{record_of}
 use Rattle.runs.specs.declared.result.DcTransientResult.{DcTransientResult}
 use Rattle.runs.specs.declared.stepping.Advanced.{Advanced}
-use Rattle.runs.specs.Kinds.{RunKind}
+use Rattle.runs.specs.Kinds.{RunKind, counted_up}
 use Rattle.runs.specs.Blank.{blank_grid, blank_state}
 
 -- ---- one step of a kept run
@@ -57,6 +57,21 @@ fault_stepper =
 -- what an advance reads of a fault run; its `run_stepper` is `fault_stepper`
 abbrev pub fault_kind : RunKind FaultRun
 fault_kind = record { refused = fault_run_refused; grid = λ r. r.grid; steps_made = λ r. r.steps_made; state = λ r. r.variables.state; next = next_fault_run }
+
+-- the plan of a run, refused or not: the flag is not set yet
+abbrev pub fault_run_plan : FaultRun → FaultSteps
+fault_run_plan r = record { plan = plan_of r.grid r.fault; resting = false }
+
+-- the variables after a step by any plan: where the flag is set no array is changed
+abbrev pub variables_by : FaultRun → FaultSteps → FaultVariables
+variables_by r p = cond p.resting (quiet_step p.plan.constants r.steps_made r.variables) (plan_step p.plan r.steps_made r.variables)
+
+-- the run after a step by any plan, and the plan after it, whose flag is set once the run rests
+unfoldable pub stepped_fault_run : FaultRun → FaultSteps → FaultRun
+stepped_fault_run r p = record { grid = r.grid; fault = r.fault; steps_made = counted_up r.steps_made; variables = variables_by r p }
+
+unfoldable pub stepped_fault_plan : FaultRun → FaultSteps → FaultSteps
+stepped_fault_plan r p = record { plan = p.plan; resting = p.resting || rests_by p.plan (variables_by r p) }
 
 -- steps by the plan are the run's own, and the flag is set only where it rests
 abbrev pub FaultPlanned : FaultRun → FaultSteps → Type 0

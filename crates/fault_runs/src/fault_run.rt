@@ -1,7 +1,7 @@
 // A fault run in portions: 000's simulate_fault.
 ghost use Rattle.std.specs.Prelude.{◌≡◌, cond};
 ghost use Rattle.portions.specs.Stopping.{memory_of};
-ghost use Rattle.fault_runs.specs.FaultRuns.{fault_kind, FaultPlanned, fault_stepper, advanced_fault_run, fault_figures};
+ghost use Rattle.fault_runs.specs.FaultRuns.{fault_kind, fault_run_plan, stepped_fault_run, stepped_fault_plan, FaultPlanned, fault_stepper, advanced_fault_run, fault_figures};
 
 use fault_plan::{FaultPlan, FaultVariables, fault_plan, quiet_step, rests, waits};
 use fault_step::fault_step;
@@ -32,6 +32,12 @@ impl Run for FaultRun {
     type Plan = FaultSteps;
 
     ghost kind = { fault_kind };
+
+    ghost plan_of_run = { fault_run_plan };
+
+    ghost stepped_run = { stepped_fault_run };
+
+    ghost stepped_plan = { stepped_fault_plan };
 
     ghost planned = { FaultPlanned };
 

@@ -1,5 +1,5 @@
 -- A kind of run, fault runs or switching runs: what an advance reads of a run, and what it returns. Definitions only.
-use Rattle.std.specs.Prelude.{ℕ, ◌≡◌, ◌+◌, ◌≤◌, Bool, cond, List, [], ◌∷◌, eqb, length, Float}
+use Rattle.std.specs.Prelude.{ℕ, ◌≡◌, ◌+◌, ◌-◌, ◌^◌, ◌≤◌, min, Bool, cond, List, [], ◌∷◌, eqb, length, Float}
 use Rattle.grid.specs.declared.simulator.DcSwitchingSimulator.{DcSwitchingSimulator}
 use Rattle.timing.specs.Steps.{steps_of, recorded, record_length}
 use Rattle.timing.specs.Claims.{Steps}
@@ -42,6 +42,10 @@ pub record Ready (g : DcSwitchingSimulator) (made : ℕ) : Type 0 where
   pub steps : Steps (steps_of g)
   pub sizes : Sizes g
   pub not_past : made ≤ steps_of g
+
+-- the steps made after one more: counted up to the largest u64, where the count stays
+abbrev pub counted_up : ℕ → ℕ
+counted_up made = min (made + 1) (2 ^ 64 - 1)
 
 -- what a step by a plan of the run makes of both: the run is the next, of the same grid and with one more step made, and the plan is one of that run
 pub record Stepped {K P : Type 0} (k : RunKind K) (is_planned : K → P → Type 0) (before after : K) (plan : P) : Type 0 where

@@ -26,6 +26,14 @@ pub trait Run: Copy {
 
     ghost kind: { RunKind Self };
 
+    // the plan that `plan` works out of a run, also of one that rule 11 refuses
+    ghost plan_of_run: { Self → Self.Plan };
+
+    // the run and the plan after a step, also by a plan of another run and past the last step
+    ghost stepped_run: { Self → Self.Plan → Self };
+
+    ghost stepped_plan: { Self → Self.Plan → Self.Plan };
+
     // whether a plan is one of a run
     ghost planned: { Self → Self.Plan → Type 0 };
 
@@ -43,12 +51,15 @@ pub trait Run: Copy {
         ensures { result ≡ kind.state self.now };
 
     fn plan(&self) -> Self::Plan
+        ensures answer { result ≡ plan_of_run self.now }
         ensures planned { kind.refused self.now ≡ false → planned self.now result }
         ensures ready { kind.refused self.now ≡ false → Ready (kind.grid self.now) (kind.steps_made self.now) };
 
-    // Makes a step, by a plan of the run.
+    // Makes a step by a plan. By a plan of the run it is the run's next.
     fn step(&mut self, plan: &mut Self::Plan)
-        ensures { planned self.old plan.old → kind.steps_made self.old < most_steps → Stepped kind planned self.old self.new plan.new };
+        ensures run { self.new ≡ stepped_run self.old plan.old }
+        ensures plan { plan.new ≡ stepped_plan self.old plan.old }
+        ensures next { planned self.old plan.old → kind.steps_made self.old < most_steps → Stepped kind planned self.old self.new plan.new };
 }
 
 // Makes at most `allowance` steps one by one, and writes the records of those that are recorded.

@@ -11,7 +11,7 @@ use Rattle.timing.specs.Steps.{most_steps}
 use Rattle.portions.specs.Calls.{Called, Made}
 use Rattle.runs.specs.Kinds.{Ready, Stepped}
 use Rattle.switching_runs.specs.declared.switching_run.SwitchingRun.{SwitchingRun}
-use Rattle.switching_runs.specs.SwitchingRuns.{switching_kind, SwitchingPlanned, switching_stepper, advanced_switching_run, switching_results}
+use Rattle.switching_runs.specs.SwitchingRuns.{switching_kind, switching_run_plan, stepped_switching_run, SwitchingPlanned, switching_stepper, advanced_switching_run, switching_results}
 use Rattle.switching_runs.specs.contracts.switching_run.SwitchingRun.advance as advance-contract
 use Rattle.switching_runs.proofs.switching_run.SwitchingRun.advance.Kinds as advance-kinds
 use Rattle.switching_runs.proofs.switching_run.SwitchingRun.advance.Reads as advance-reads
@@ -96,12 +96,15 @@ module _ (κs : Lfts 1) (a : ArgsD plan-contract.signature κs) (r : ResD plan-c
   pub plan_any : plan-reads.Asked κs a
   plan_any = tt
 
-  pub plan_is : plan-reads.Learnt κs a r e → switching_kind.refused a.0.now ≡ false → SwitchingPlanned a.0.now r × Ready a.0.now.grid a.0.now.steps_made
-  plan_is h taken = (h.0 taken, h.1 taken)
+  pub plan_is : plan-reads.Learnt κs a r e
+      → (r ≡ switching_run_plan a.0.now) × (switching_kind.refused a.0.now ≡ false → SwitchingPlanned a.0.now r × Ready a.0.now.grid a.0.now.steps_made)
+  plan_is h = (h.0, λ taken. (h.1.0 taken, h.1.1 taken))
 
 module _ (κs : Lfts 2) (a : ArgsD step-contract.signature κs) (r : ResD step-contract.signature κs) (e : AtExit (ended_of 2 step-kinds.ps step-kinds.r) κs) where
   pub step_any : step-reads.Asked κs a
   step_any = tt
 
-  pub step_is : step-reads.Learnt κs a r e → SwitchingPlanned a.0.now a.1.0.now → a.0.now.steps_made < most_steps → Stepped switching_kind SwitchingPlanned a.0.now e.0.now e.1.0.now
-  step_is h = h
+  pub step_is : step-reads.Learnt κs a r e
+      → (e.0.now ≡ stepped_switching_run a.0.now a.1.0.now) × (e.1.0.now ≡ a.1.0.now)
+      × (SwitchingPlanned a.0.now a.1.0.now → a.0.now.steps_made < most_steps → Stepped switching_kind SwitchingPlanned a.0.now e.0.now e.1.0.now)
+  step_is h = (h.0, h.1.0, h.1.1)

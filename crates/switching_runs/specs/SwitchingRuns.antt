@@ -8,12 +8,12 @@ use Rattle.portions.specs.Stopping.{Stepper, answer_of}
 use Rattle.switching_plan.specs.declared.plan.SwitchingPlan.{SwitchingPlan}
 use Rattle.switching_plan.specs.declared.variables.SwitchingVariables.{SwitchingVariables}
 use Rattle.switching_plan.specs.Switching.{switching_body, switching_after}
-use Rattle.switching_plan.specs.Plans.{switching_plan_step}
+use Rattle.switching_plan.specs.Plans.{switching_plan_of, switching_plan_step}
 use Rattle.switching_runs.specs.declared.switching_run.SwitchingRun.{SwitchingRun}
 use Rattle.records.specs.Records.{record_of}
 use Rattle.runs.specs.declared.result.DcTransientResult.{DcTransientResult}
 use Rattle.runs.specs.declared.stepping.Advanced.{Advanced}
-use Rattle.runs.specs.Kinds.{RunKind}
+use Rattle.runs.specs.Kinds.{RunKind, counted_up}
 use Rattle.runs.specs.Blank.{blank_grid, blank_state}
 
 -- ---- one step of a kept run
@@ -54,6 +54,21 @@ switching_stepper =
 abbrev pub switching_kind : RunKind SwitchingRun
 switching_kind =
     record { refused = switching_run_refused; grid = λ r. r.grid; steps_made = λ r. r.steps_made; state = λ r. r.variables.state; next = next_switching_run }
+
+-- the plan of a run, refused or not
+abbrev pub switching_run_plan : SwitchingRun → SwitchingPlan
+switching_run_plan r = switching_plan_of r.grid r.breaker_id r.«open»
+
+-- the run after a step by any plan; the plan stays
+unfoldable pub stepped_switching_run : SwitchingRun → SwitchingPlan → SwitchingRun
+stepped_switching_run r p =
+    record {
+      grid = r.grid;
+      breaker_id = r.breaker_id;
+      «open» = r.«open»;
+      steps_made = counted_up r.steps_made;
+      variables = switching_plan_step p r.steps_made r.variables;
+    }
 
 -- steps by the plan are the run's own
 abbrev pub SwitchingPlanned : SwitchingRun → SwitchingPlan → Type 0

@@ -1,7 +1,7 @@
 // A switching run in portions: 000's simulate_switching.
 ghost use Rattle.std.specs.Prelude.{◌≡◌};
 ghost use Rattle.portions.specs.Stopping.{memory_of};
-ghost use Rattle.switching_runs.specs.SwitchingRuns.{switching_kind, SwitchingPlanned, switching_stepper, advanced_switching_run, switching_results};
+ghost use Rattle.switching_runs.specs.SwitchingRuns.{switching_kind, switching_run_plan, stepped_switching_run, SwitchingPlanned, switching_stepper, advanced_switching_run, switching_results};
 
 use grid::DcSwitchingSimulator;
 use rules::check_switching;
@@ -25,6 +25,13 @@ impl Run for SwitchingRun {
     type Plan = SwitchingPlan;
 
     ghost kind = { switching_kind };
+
+    ghost plan_of_run = { switching_run_plan };
+
+    ghost stepped_run = { stepped_switching_run };
+
+    // no step changes the plan
+    ghost stepped_plan = { λ r p. p };
 
     ghost planned = { SwitchingPlanned };
 

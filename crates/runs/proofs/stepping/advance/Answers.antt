@@ -28,7 +28,7 @@ pub loop-steps-preserved : goal.loop-steps-preserved
 loop-steps-preserved g c =
     let p = c.put_if_recorded-out.ensures in
     let is_few = few _ c.loop-steps.invariant.0 _ c.steps_made-made.ensures _ c.is_recorded-recorded.ensures c.loop-steps-test.true c.if-ended-full.false in
-    let s = c.step.ensures c.loop-steps.invariant.1 is_few in
+    let s = c.step.ensures.next c.loop-steps.invariant.1 is_few in
     (goes _ c.loop-steps.invariant.0 _ c.steps_made-made.ensures _ c.is_recorded-recorded.ensures c.loop-steps-test.true c.if-ended-full.false _ s.next s.grid s.counted _ c.state.ensures _ p.answer _ p.memory, s.planned)
 
 pub returns : goal.returns
