@@ -1,19 +1,22 @@
 -- The claims speak of what the code returns: what a caller learns from the contracts of `fault_runs` and `fault_start`, as Rattle reads their clauses, gives the claim of the result. Assumes nothing.
-use mathlib.Core.Path.{◌≡◌, ◌∙◌}
+use mathlib.Core.Path.{◌≡◌, refl, ap, ◌∙◌}
+use mathlib.Core.Bool.{true}
+use borrow.Author.Tests.{ne_eqb}
 use mathlib.Core.List.{List}
 use lib.Ieee.{Float}
 use Rattle.std.specs.Prelude.{Ok}
+use Rattle.std.specs.Result.{result_unwrap_or}
 use contract.Lifetimes.{Lfts}
 use borrow.Fn.World.{ArgsD, ResD}
 use borrow.Fn.Kinds.{ended_of}
 use denote.Triple.Clauses.{AtExit}
 use Rattle.rules.specs.Studies.{fault_refusal}
-use Rattle.rules.proofs.Outcomes.{ok_at}
+use Rattle.rules.proofs.Outcomes.{ok_at, unwrapped}
 use Rattle.portions.specs.Calls.{Called, Chain, last, and}
 use Rattle.portions.specs.Refusals.{RefusedIf}
 use Rattle.portions.proofs.Course.{chain_and}
 use Rattle.fault_runs.specs.declared.fault_run.FaultRun.{FaultRun}
-use Rattle.fault_runs.specs.FaultRuns.{fault_stepper, fault_run_after}
+use Rattle.fault_runs.specs.FaultRuns.{fault_run_refused, fault_stepper, blank_fault_run, fault_run_after, started_fault_run}
 use Rattle.fault_run_claims.specs.Claims.{FaultBroken}
 use Rattle.fault_run_claims.proofs.Claims.{fault_run_claims}
 use Rattle.fault_run_claims.proofs.Refusals.{fault_refusal_claims}
@@ -29,6 +32,14 @@ module _ (κs : Lfts 0) (a : ArgsD simulate-contract.signature κs) (r : ResD si
   -- one that is accepted is kept after 0 steps
   pub simulate_accepted : simulate-reads.Learnt κs a r e → fault_refusal a.0 a.1.0 ≡ 0 → r ≡ Ok (fault_run_after a.0 a.1.0 0)
   simulate_accepted h z = ok_at r _ (h.0 ∙ z) (rw (← fault_run_claims.started a.0 a.1.0 z) h.1)
+
+  -- with a run of zeros in the place of the one that a refused start does not have, which every advance refuses
+  pub simulate_unwrapped : simulate-reads.Learnt κs a r e → result_unwrap_or r blank_fault_run ≡ started_fault_run a.0 a.1.0
+  unfolding started_fault_run
+  simulate_unwrapped h = unwrapped r _ blank_fault_run h.1 (λ n. rw (ne_eqb (fault_refusal a.0 a.1.0) 0 (λ z. n (h.0 ∙ z))) refl)
+
+  pub not_simulated : simulate-reads.Learnt κs a r e → (fault_refusal a.0 a.1.0 ≡ 0 → ⊥) → fault_run_refused (result_unwrap_or r blank_fault_run) ≡ true
+  not_simulated h n = ap fault_run_refused (simulate_unwrapped h) ∙ fault_run_claims.not_started a.0 a.1.0 n
 
 module _ (κs : Lfts 1) (a : ArgsD advance-contract.signature κs) (r : ResD advance-contract.signature κs) (e : AtExit (ended_of 1 advance-kinds.ps advance-kinds.r) κs) where
   -- behind calls from s that kept the run which is advanced

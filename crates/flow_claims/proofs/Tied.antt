@@ -5,6 +5,7 @@ use mathlib.Core.Path.{◌≡◌, sym, ap, ◌∙◌}
 use mathlib.Core.Bool.{true, false}
 use lib.ListN.{get_or}
 use Rattle.std.specs.Prelude.{Ok, Err}
+use Rattle.std.specs.Result.{result_unwrap_or}
 use Rattle.std.proofs.lemmas.Result.{IfOk-at_ok}
 use contract.Lifetimes.{Lfts}
 use borrow.Fn.World.{ArgsD, ResD}
@@ -13,10 +14,10 @@ use denote.Triple.Clauses.{AtExit}
 use Rattle.float64.specs.Constants.{nought}
 use Rattle.rules.specs.Studies.{rule_number, flow_refusal}
 use Rattle.rules.specs.declared.studies.Refusal.{Refusal}
-use Rattle.rules.proofs.Outcomes.{err_at, accepted_at}
+use Rattle.rules.proofs.Outcomes.{err_at, accepted_at, unwrapped}
 use Rattle.converter.specs.Point.{blank_point}
 use Rattle.power_flow.specs.declared.flow.DcGridSolution.{DcGridSolution}
-use Rattle.power_flow.specs.Flow.{flow_answer}
+use Rattle.power_flow.specs.Flow.{blank_solution, flow_answer}
 use Rattle.flow_claims.specs.Claims.{AnswerStops, AnswerSpent}
 use Rattle.flow_claims.proofs.Claims.{answer_claims}
 use Rattle.power_flow.specs.contracts.solve_dc_power_flow as solve-contract
@@ -28,6 +29,10 @@ module _ (κs : Lfts 0) (a : ArgsD solve-contract.signature κs) (r : ResD solve
     -- a refused grid has no solution, only the refusal of its rule
     pub solve_refused : (refusal : Refusal) → flow_refusal a.0 ≡ rule_number refusal → r ≡ Err refusal
     solve_refused refusal d = err_at r refusal (h.0 ∙ d)
+
+    -- with zeros in the place of the solution that it does not have
+    pub solve_unwrapped : result_unwrap_or r blank_solution ≡ flow_answer a.0
+    solve_unwrapped = unwrapped r _ blank_solution h.1 (λ n. answer_claims.refused a.0 (λ z. n (h.0 ∙ z)))
 
     module _ (s : DcGridSolution) (solved : r ≡ Ok s) where
       accepted : flow_refusal a.0 ≡ 0

@@ -6,7 +6,7 @@ use mathlib.Core.Bool.{true, false, true≢false}
 use mathlib.Core.List.{[], ◌∷◌}
 use lib.ListN.{get_or}
 use Rattle.std.specs.Prelude.{Result, Ok, Err, IfOk}
-use Rattle.std.specs.Result.{is_err}
+use Rattle.std.specs.Result.{is_err, result_unwrap_or}
 use Rattle.rules.specs.declared.studies.Refusal.{Refusal}
 use Rattle.rules.specs.declared.studies.Refusal.TheVariants.{NoStation, NoCable, TooManyParts, TimeOutside, TooManySteps, StationOutside, CableOutside, BreakerOutside, EventOutside, NotConverged}
 use Rattle.rules.specs.Studies.{rule_number, number_of}
@@ -52,3 +52,9 @@ module _ {A : Type 0} where
   unfolding number_of
   nought_at (Ok x) e = refl
   nought_at (Err x) e = absurd (true≢false e)
+
+  -- with z in the place of what a refusal does not have, every answer is its definition, which is z where the number is not 0
+  pub unwrapped : (r : Result A Refusal) (c z : A) → IfOk r (λ v. v ≡ c) → ((number_of r ≡ 0 → ⊥) → c ≡ z) → result_unwrap_or r z ≡ c
+  unfolding number_of
+  unwrapped (Ok v) c z h k = h
+  unwrapped (Err y) c z h k = sym (k (known y).1)

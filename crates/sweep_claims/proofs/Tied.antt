@@ -1,27 +1,30 @@
 -- The claims speak of what the code returns: what a caller learns from a contract in `fault_sweep` or `sweep_start`, as Rattle reads its clauses, gives the claim of the result.
 -- Assumes nothing.
-use mathlib.Core.Path.{◌≡◌, refl, sym, ◌∙◌}
+use mathlib.Core.Path.{◌≡◌, refl, sym, ap, ◌∙◌}
+use mathlib.Core.Bool.{true}
+use borrow.Author.Tests.{ne_eqb}
 use mathlib.Core.List.{[]}
 use Rattle.std.specs.Prelude.{Ok}
+use Rattle.std.specs.Result.{result_unwrap_or}
 use Rattle.std.proofs.lemmas.Result.{IfOk-at_ok}
 use contract.Lifetimes.{Lfts}
 use borrow.Fn.World.{ArgsD, ResD}
 use borrow.Fn.Kinds.{ended_of}
 use denote.Triple.Clauses.{AtExit}
 use Rattle.rules.specs.Studies.{number_of}
-use Rattle.rules.proofs.Outcomes.{ok_at, accepted_at}
+use Rattle.rules.proofs.Outcomes.{ok_at, accepted_at, unwrapped}
 use Rattle.portions.specs.Calls.{Chain, last, and}
 use Rattle.portions.specs.Refusals.{RefusedIf}
 use Rattle.portions.proofs.Course.{chain_and}
 use Rattle.power_flow.specs.Flow.{solution_of}
 use Rattle.fault_sweep.specs.declared.sweep.Sweep.{Sweep}
 use Rattle.fault_sweep.specs.KeptSweep.{sweep_after}
-use Rattle.fault_sweep.specs.Advance.{sweep_stepper}
+use Rattle.fault_sweep.specs.Advance.{sweep_broken, sweep_stepper}
 use Rattle.fault_sweep.proofs.Tied.{call, advance_made}
 use Rattle.fault_sweep.specs.contracts.sweep.Sweep.advance as advance-contract
 use Rattle.fault_sweep.proofs.sweep.Sweep.advance.Kinds as advance-kinds
 use Rattle.fault_sweep.proofs.sweep.Sweep.advance.Reads as advance-reads
-use Rattle.sweep_start.specs.Start.{started_sweep}
+use Rattle.sweep_start.specs.Start.{blank_sweep, sweep_refused, started_sweep}
 use Rattle.sweep_start.specs.contracts.start_sweep as start-contract
 use Rattle.sweep_start.proofs.start_sweep.Kinds as start-kinds
 use Rattle.sweep_start.proofs.start_sweep.Reads as start-reads
@@ -54,6 +57,14 @@ module _ (κs : Lfts 0) (a : ArgsD start-contract.signature κs) (r : ResD start
   -- one that is accepted is kept after 0 steps
   pub start_accepted : start-reads.Learnt κs a r e → number_of r ≡ 0 → r ≡ Ok (sweep_after a.0 a.1.0 (solution_of a.0) 0)
   start_accepted h z = ok_at r _ z (rw (← start_claims.started a.0 a.1.0 (sym h.0 ∙ z)) h.1)
+
+  -- with a sweep of zeros in the place of the one that a refused start does not have, which every advance refuses
+  pub start_unwrapped : start-reads.Learnt κs a r e → result_unwrap_or r blank_sweep ≡ started_sweep a.0 a.1.0
+  unfolding started_sweep
+  start_unwrapped h = unwrapped r _ blank_sweep h.1 (λ n. rw (ne_eqb (sweep_refused a.0 a.1.0) 0 (λ z. n (h.0 ∙ z))) refl)
+
+  pub not_started : start-reads.Learnt κs a r e → (sweep_refused a.0 a.1.0 ≡ 0 → ⊥) → sweep_broken (result_unwrap_or r blank_sweep) ≡ true
+  not_started h n = ap sweep_broken (start_unwrapped h) ∙ start_claims.not_started a.0 a.1.0 n
 
   -- demand 3, of any calls of the sweep that is returned
   pub start_swept : start-reads.Learnt κs a r e → (s : Sweep) → r ≡ Ok s → (cs : Calls) (u : Sweep) → Advanced s cs u → Demand3 a.0 a.1.0 cs
