@@ -2,7 +2,7 @@
 // rule that the sheet breaks and the line that shows it. How far it is goes to standard error.
 #![tactic(auto)]
 
-ghost use Rattle.std.specs.Prelude.{IfOk};
+ghost use Rattle.std.specs.Prelude.{IfOk, MatchOption, ⊤};
 ghost use Rattle.sweep.specs.Turns.{Within, IsRead};
 
 mod listing;
@@ -28,28 +28,29 @@ fn read_some(rt: &impl Input, buffer: &mut [u8; 65536]) -> io::Result<Option<usi
     }
 }
 
-// Reads until the input ends, or nothing that follows can change the answer.
-fn read_sheet(rt: &impl Input) -> io::Result<Reading>
-    ensures { IfOk result IsRead }
+// Reads until the input ends, or nothing that follows can change the answer. None after as many pieces as there can be, since the input has not ended then.
+fn read_sheet(rt: &impl Input) -> io::Result<Option<Reading>>
+    ensures { IfOk result (λ read. MatchOption read ⊤ IsRead) }
 {
     let mut buffer = [0; 65536];
     let mut reading = sheet::start();
     for _turn in 0..TURNS {
         let Some(n) = read_some(rt, &mut buffer)? else {
-            break;
+            return Ok(Some(reading));
         };
         reading = sheet::feed(reading, &buffer[..n]);
         if sheet::stopped(reading) {
-            break;
+            return Ok(Some(reading));
         }
     }
-    Ok(reading)
+    Ok(None)
 }
 
-// An input that cannot be read is not answered. Nothing is left to do where an answer cannot be written.
+// An input that cannot be read, or does not end, is not answered. Nothing is left to do where an answer cannot be written.
 fn main(rt: HostRuntime) {
     let _ = match read_sheet(&rt) {
-        Ok(reading) => listing::print_answer(&rt, sheet::answer(reading)),
+        Ok(Some(reading)) => listing::print_answer(&rt, sheet::answer(reading)),
+        Ok(None) => Ok(()),
         Err(e) => eprintln!(rt; "standard input: {e}"),
     };
 }
