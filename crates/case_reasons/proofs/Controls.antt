@@ -72,14 +72,16 @@ tenths_are = (refl, refl, refl, refl)
 event : DcFaultType → ℕ → Float → DcFaultEvent
 event type at fraction = record { fault_type = type; location_cable_id = at; location_fraction = fraction; fault_resistance = whole 6; inception_time_ms = whole 7 }
 
--- 0.3 and 0.7 by their bits, as the Rust has 3.0 / 10.0 and 7.0 / 10.0; the ends of a cable
+-- 0.3 and 0.7 by their bits, as the Rust has 3.0 / 10.0 and 7.0 / 10.0; the ends of a cable; places put together by hand, with types past the last
 faults_are
     : (fault_of (order 2 4) 1 ≡ event PoleToGround 0 (of_bits binary64 0x3fd3_3333_3333_3333))
     × (fault_of (order 7 7) 4 ≡ event PoleToPole 1 (of_bits binary64 0x3fe6_6666_6666_6666))
     × (fault_of (order 0 0) 2 ≡ event ConverterInternal 0 nought)
     × (fault_of (order 10 10) 3 ≡ event PoleToGround 1 (whole 1))
-unfolding fault_in order event whole of_int of_bits round div
-faults_are = (refl, refl, refl, refl)
+    × (fault_in (order 2 4) (place 1 3 3) ≡ event ConverterInternal 1 (of_bits binary64 0x3fd3_3333_3333_3333))
+    × (fault_in (order 2 4) (place 1 7 0) ≡ event ConverterInternal 1 nought)
+unfolding fault_in order place event whole of_int of_bits round div
+faults_are = (refl, refl, refl, refl, refl, refl)
 
 -- ---- reasons
 

@@ -4,5 +4,5 @@
 mod reasons;
 mod row;
 
-pub use reasons::{CaseOutcome, Limit, reasons_for};
+pub use reasons::{CaseOutcome, Limit, reasons_for, reasons_in};
 pub use row::{CaseRow, ROW_LENGTH, put_row};

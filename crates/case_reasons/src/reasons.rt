@@ -26,9 +26,16 @@ pub enum Limit {
 }
 
 // 01's reasons, added up; 0 where the breakers meet the case.
-#[tactic(auto, using(crate::proofs::Written::exceeded_present), unfolding(crate::specs::Reasons::reasons_of))]
 pub fn reasons_for(g: DcSwitchingSimulator, cable_number: u64, outcome: CaseOutcome) -> u64
     ensures { result ≡ reasons_of g cable_number outcome }
+{
+    reasons_in(&g, cable_number, outcome)
+}
+
+// `reasons_for` of a grid that is lent, for a caller that keeps one for many cases: no part of it is copied.
+#[tactic(auto, using(crate::proofs::Written::exceeded_present), unfolding(crate::specs::Reasons::reasons_of))]
+pub fn reasons_in(g: &DcSwitchingSimulator, cable_number: u64, outcome: CaseOutcome) -> u64
+    ensures { result ≡ reasons_of g.now cable_number outcome }
 {
     let cable = cable_at(g, cable_number);
     let breakers = g.present_breakers();
@@ -54,8 +61,8 @@ fn weight(applies: bool, reason: u64) -> u64
 }
 
 // The cable at a position; past the last place one that is all zero.
-fn cable_at(g: DcSwitchingSimulator, number: u64) -> DcCable
-    ensures { result ≡ cable_in g number }
+fn cable_at(g: &DcSwitchingSimulator, number: u64) -> DcCable
+    ensures { result ≡ cable_in g.now number }
 {
     let none = DcCable {
         id: 0,
@@ -66,8 +73,7 @@ fn cable_at(g: DcSwitchingSimulator, number: u64) -> DcCable
         c_per_km: 0.0,
         length_km: 0.0,
     };
-    let cables = g.cables;
-    cables.get(number as usize).copied().unwrap_or(none)
+    g.cables.get(number as usize).copied().unwrap_or(none)
 }
 
 // Whether the value exceeds that limit of some breaker at an end of the cable.

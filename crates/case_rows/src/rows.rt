@@ -5,7 +5,7 @@ ghost use Rattle.portions.specs.Stopping.{joined};
 ghost use Rattle.portions.specs.Cases.{to_list};
 ghost use Rattle.case_rows.specs.Rows.{loss_in, room_behind, row_in};
 
-use case_reasons::{CaseOutcome, CaseRow, ROW_LENGTH, put_row, reasons_for};
+use case_reasons::{CaseOutcome, CaseRow, ROW_LENGTH, put_row, reasons_in};
 use fault_cases::case_place;
 use grid::{DcSwitchingSimulator, SweepOrder};
 use power_flow::DcGridSolution;
@@ -31,18 +31,20 @@ impl Swept {
         let place = case_place(self.order, k);
         let row = CaseRow {
             place,
-            reasons: reasons_for(self.grid, place.cable, outcome),
+            reasons: reasons_in(&self.grid, place.cable, outcome),
             outcome,
-            loss_mw: loss_of(self.flow, place.cable),
+            loss_mw: loss_of(&self.flow, place.cable),
         };
         put_row(rows, ROW_LENGTH * out, row)
     }
 }
 
 // The flow's loss in a cable; zero past the last place.
-fn loss_of(flow: DcGridSolution, cable: u64) -> f64
-    ensures { result ≡ loss_in flow cable }
+fn loss_of(flow: &DcGridSolution, cable: u64) -> f64
+    ensures { result ≡ loss_in flow.now cable }
 {
-    let losses = flow.cable_losses_mw;
-    losses.get(cable as usize).copied().unwrap_or(0.0)
+    flow.cable_losses_mw
+        .get(cable as usize)
+        .copied()
+        .unwrap_or(0.0)
 }

@@ -24,10 +24,10 @@ returns c =
     record {
       answer =
           q.answer
-          ∙ rw (c.reasons_for.ensures, c.case_place-place.ensures)
+          ∙ rw (c.reasons_in.ensures, c.case_place-place.ensures)
           (row_count place _ c.args.outcome (loss_in s.flow place.cable) (8 * c.args.out) (length c.args.rows.now) room);
       memory =
           q.memory
-          ∙ rw (c.loss_of.ensures, c.reasons_for.ensures, c.case_place-place.ensures)
+          ∙ rw (c.loss_of.ensures, c.reasons_in.ensures, c.case_place-place.ensures)
           (ap (sets c.args.rows.now (8 * c.args.out)) (row_numbers place _ c.args.outcome (loss_in s.flow place.cable) (8 * c.args.out) (length c.args.rows.now) room));
     }
